@@ -1,0 +1,4 @@
+pub mod Cards
+pub mod Decimals
+pub mod Parts
+pub mod Sentences
