@@ -1,0 +1,5 @@
+pub mod Whole
+pub mod Tests
+pub mod Small
+pub mod Cursor
+pub mod Dot

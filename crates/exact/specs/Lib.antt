@@ -1,0 +1,3 @@
+pub mod Whole
+pub mod Tests
+pub mod Dot
