@@ -1,0 +1,3 @@
+pub mod Deep
+pub mod Low
+pub mod Unique

@@ -1,0 +1,5 @@
+pub mod Tests
+pub mod Entries
+pub mod Parts
+pub mod Stored
+pub mod Unique

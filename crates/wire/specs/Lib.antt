@@ -1,0 +1,4 @@
+pub mod All
+pub mod Each
+pub mod Terms
+pub mod Storage
