@@ -1,0 +1,5 @@
+pub mod Put
+pub mod Merge
+pub mod Outcome
+pub mod Holds
+pub mod Proper

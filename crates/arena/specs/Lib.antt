@@ -1,0 +1,4 @@
+pub mod Sums
+pub mod Arena
+pub mod Steps
+pub mod Holds
