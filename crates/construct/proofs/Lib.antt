@@ -1,0 +1,12 @@
+pub mod Bits
+pub mod Values
+pub mod Builds
+pub mod ListWalk
+pub mod Sequence
+pub mod Arbitrate
+pub mod Reach
+pub mod Scope
+pub mod Scoped
+pub mod Right
+pub mod Table
+pub mod Forms

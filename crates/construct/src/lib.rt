@@ -1,0 +1,1 @@
+// The construction of a circuit from nodes, as definitions and laws only: see specs/ and proofs/.

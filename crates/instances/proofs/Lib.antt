@@ -1,0 +1,6 @@
+pub mod Fits
+pub mod Steps
+pub mod Loops
+pub mod Up
+pub mod Down
+pub mod Circuit

@@ -1,0 +1,4 @@
+pub mod Stop
+pub mod Same
+pub mod Sizes
+pub mod Circuit

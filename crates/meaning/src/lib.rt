@@ -1,0 +1,1 @@
+// What a circuit means, as laws only: see proofs/.

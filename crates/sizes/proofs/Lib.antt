@@ -1,0 +1,10 @@
+pub mod Bounds
+pub mod Heavy
+pub mod TreeLow
+pub mod DownLow
+pub mod Whole
+pub mod Running
+pub mod Coef
+pub mod Cursors
+pub mod Circuit
+pub mod Tree
