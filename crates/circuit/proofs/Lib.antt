@@ -1,0 +1,5 @@
+pub mod All
+pub mod Rising
+pub mod Count
+pub mod Whole
+pub mod Checked

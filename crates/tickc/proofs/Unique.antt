@@ -1,0 +1,25 @@
+-- Any two outcomes that a contract permits coincide, with all that they leave. Assumes nothing.
+use mathlib.Core.Path.{_≡_, sym, ap, _∙_}
+use mathlib.Core.List.{List}
+use Prim.Native.Nat.{ℕ}
+use lib.Ieee.{Float}
+use Rattle.circuit.specs.Check.{Stored, circuitOk}
+use Rattle.validate.specs.Validate.{validateOf}
+use Rattle.lane.specs.Lane.{Lent}
+use Rattle.tick.specs.Tick.{tickOf}
+use Rattle.tickc.specs.declared.Refusal.{Refusal}
+use Rattle.tickc.specs.Refusal.{checkNumber, ofValidated, Told, told, tell}
+
+-- palthengi_check
+pub one-number : (s : Stored) (r r′ : ℕ) → r ≡ checkNumber (circuitOk s) → r′ ≡ checkNumber (circuitOk s) → r ≡ r′
+one-number s r r′ e e′ = e ∙ sym e′
+
+-- palthengi_validate
+pub one-refusal : (s : Stored) (table : List Float) (r r′ : Refusal) → r ≡ ofValidated (validateOf s table) → r′ ≡ ofValidated (validateOf s table) → r ≡ r′
+one-refusal s table r r′ e e′ = e ∙ sym e′
+
+-- palthengi_tick
+pub one-told : (s : Stored) (row : List ℕ) (l : Lent) (r r′ : Refusal) (left left′ : Lent) → told r left ≡ tell (tickOf s row l) → told r′ left′ ≡ tell (tickOf s row l) → (r ≡ r′) × (left ≡ left′)
+one-told s row l r r′ left left′ e e′ =
+    let same = e ∙ sym e′ in
+    (ap (λ (o : Told). o .answer) same, ap (λ (o : Told). o .left) same)

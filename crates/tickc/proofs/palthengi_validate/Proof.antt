@@ -1,0 +1,18 @@
+-- `tickc::palthengi_validate` meets its contract. Assumes nothing.
+use mathlib.Core.Path.{ap, _∙_}
+use borrow.Author.Needs.{needs}
+use Rattle.tickc.specs.Refusal.{ofValidated}
+use Rattle.tickc.proofs.palthengi_validate.Statement.{statement}
+use Rattle.tickc.proofs.palthengi_validate.Tie as tie
+
+validate-requires : tie.Need-validate-requires
+validate-requires c κs = search needs
+
+of-validated-requires : tie.Need-of-validated-requires
+of-validated-requires c κs = search needs
+
+returns : tie.Need-returns
+returns c = c .of-validated .ensures ∙ ap ofValidated (c .before .validate .ensures)
+
+pub palthengi-validate-spec : {M : Type 1} → statement M
+palthengi-validate-spec = tie.close (tie.spec validate-requires of-validated-requires returns)

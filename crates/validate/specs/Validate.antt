@@ -1,0 +1,18 @@
+-- Validation of a lent value table: document 01, "Validation of a value table". Definitions only.
+use Prim.Native.Nat.{_+_}
+use mathlib.Core.List.{List}
+use mathlib.Core.Bool.{cond}
+use lib.ListN.{length}
+use lib.Dec.{ltb}
+use lib.Ieee.{Float}
+use Rattle.verdict.specs.declared.Validated.{Validated}
+use Rattle.verdict.specs.declared.Validated.the-variants.{BadCircuit, ShortRoom}
+use Rattle.verdict.specs.Verdict.{valuesVerdict}
+use Rattle.circuit.specs.Check.{Stored, circuitOk}
+use Rattle.evaluate.specs.Evaluate.{outsOf}
+
+-- "Bad circuit gives 17, a table shorter than the circuit gives 14"; then node by node
+unfoldable pub validateOf : Stored → List Float → Validated
+validateOf s table =
+    let n = s .counts in
+    cond (circuitOk s) (cond (ltb (length table) (n .cells + n .ops)) ShortRoom (valuesVerdict (outsOf s table) (n .nodes) (n .cursors))) BadCircuit

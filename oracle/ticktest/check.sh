@@ -1,0 +1,29 @@
+#!/bin/sh
+# The proved tick, through C, against the Rust circuit (where ../shared lies beside this repository) and against document 01's words
+# on random and damaged circuits. Any difference ends it with a non-zero exit.
+set -eu
+cd "$(dirname "$0")/../.."
+if [ ! -e ../shared/docs/src/circuit/src/lower.rs ]; then
+    echo "ticktest: no ../shared here, so the tick is not compared with the Rust"
+    exit 0
+fi
+rt staticlib tickc >/dev/null
+cd oracle
+cargo build --offline --release --quiet -p ticktest
+run() {
+    name=$1
+    shift
+    cargo run --offline --release --quiet -p ticktest --bin "$name" -- "$@"
+}
+run ticks
+run damage
+# A comparison is worth what it finds: each slip in the reading must make it fail.
+for slip in order own wide; do
+    status=0
+    run damage --wrong $slip >/dev/null || status=$?
+    if [ $status -ne 1 ]; then
+        echo "ticktest: the slip '$slip' was not found (exit $status)"
+        exit 1
+    fi
+done
+echo "ticktest: the slips order, own and wide are each found"

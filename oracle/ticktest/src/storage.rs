@@ -1,0 +1,209 @@
+//! A circuit in the storage of docs/STORAGE.md, and the Rust's circuit turned into it.
+
+use behavior_machines_circuit::{Affine, Lowered, Op};
+use compare::circuit::rust_status;
+use reading::Status;
+
+pub const OUTPUTS: usize = 384;
+pub const OPS: usize = 2176;
+pub const BIASES: usize = 896;
+
+#[repr(C)]
+#[derive(Clone, Copy, Debug, PartialEq)]
+pub struct Counts {
+    pub nodes: usize,
+    pub cursors: usize,
+    pub leaves: usize,
+    pub cells: usize,
+    pub ops: usize,
+    pub terms: usize,
+}
+
+#[repr(C)]
+#[derive(Clone, Copy, Debug)]
+pub struct Refusal {
+    pub number: u32,
+    pub broken: u32,
+    pub place: usize,
+    pub value: f32,
+}
+
+impl PartialEq for Refusal {
+    fn eq(&self, other: &Self) -> bool {
+        let heads = |r: &Self| (r.number, r.broken, r.place);
+        heads(self) == heads(other) && crate::same(self.value, other.value)
+    }
+}
+
+impl Refusal {
+    pub const NONE: Self = Self::plain(0, 0);
+
+    pub const fn plain(number: u32, place: usize) -> Self {
+        Self {
+            number,
+            broken: 0,
+            place,
+            value: 0.0,
+        }
+    }
+
+    pub const fn broken(broken: u32, place: usize, value: f32) -> Self {
+        Self {
+            number: 18,
+            broken,
+            place,
+            value,
+        }
+    }
+}
+
+#[derive(Clone, Debug)]
+pub struct Stored {
+    pub counts: Counts,
+    pub nums: Vec<u32>,
+    pub biases: Vec<f32>,
+    pub wires: Vec<u32>,
+    pub coefs: Vec<f32>,
+}
+
+/// What a tick is lent to write.
+#[derive(Clone, Debug)]
+pub struct Lent {
+    pub flags: Vec<u8>,
+    pub cursors: Vec<u32>,
+    pub values: Vec<f32>,
+    pub statuses: Vec<u8>,
+    pub halts: Vec<u8>,
+    pub edges: Vec<u8>,
+}
+
+impl PartialEq for Lent {
+    fn eq(&self, other: &Self) -> bool {
+        let bytes = |l: &Self| {
+            (
+                l.flags.clone(),
+                l.cursors.clone(),
+                l.statuses.clone(),
+                l.halts.clone(),
+                l.edges.clone(),
+            )
+        };
+        bytes(self) == bytes(other) && crate::all_same(&self.values, &other.values)
+    }
+}
+
+impl Stored {
+    pub fn empty(counts: Counts) -> Self {
+        Self {
+            counts,
+            nums: vec![0; OPS],
+            biases: vec![0.0; BIASES],
+            wires: Vec::new(),
+            coefs: Vec::new(),
+        }
+    }
+
+    /// Appends a form's terms and gives its range.
+    pub fn terms(&mut self, terms: &[(u32, f32)]) -> [u32; 2] {
+        let first = self.wires.len() as u32;
+        for (wire, coef) in terms {
+            self.wires.push(*wire);
+            self.coefs.push(*coef);
+        }
+        self.counts.terms = self.wires.len();
+        [first, terms.len() as u32]
+    }
+
+    pub fn output(&mut self, k: usize, bias: f32, terms: &[(u32, f32)]) {
+        let range = self.terms(terms);
+        self.nums[OUTPUTS + 2 * k..OUTPUTS + 2 * k + 2].copy_from_slice(&range);
+        self.biases[k] = bias;
+    }
+
+    pub fn op(&mut self, kind: u32, left: (f32, &[(u32, f32)]), gate: (f32, &[(u32, f32)])) {
+        let (l, g) = (self.terms(left.1), self.terms(gate.1));
+        self.nums.extend([kind, l[0], l[1], g[0], g[1]]);
+        self.biases.extend([left.0, gate.0]);
+        self.counts.ops += 1;
+    }
+
+    /// The Rust's circuit, with its input cells numbered as document 01 numbers them.
+    pub fn of(lowered: &Lowered) -> Self {
+        let plan = lowered.plan();
+        let (nodes, cursors, leaves) = (plan.node_count(), plan.cursor_count(), plan.leaf_count());
+        let cells = nodes + cursors + 3 * leaves;
+        let mut number = vec![0u32; plan.cell_count() as usize];
+        for node in 0..nodes {
+            number[plan.running_cell(node) as usize] = node as u32;
+        }
+        for cell in 0..cursors {
+            number[plan.cursor_cell(cell) as usize] = (nodes + cell) as u32;
+        }
+        for slot in 0..leaves {
+            for (code, status) in Status::ALL.into_iter().enumerate() {
+                number[plan.leaf_status_cell(slot, rust_status(status)) as usize] =
+                    (nodes + cursors + 3 * slot + code) as u32;
+            }
+        }
+        let terms = |form: &Affine| {
+            let place = |wire: usize| {
+                number
+                    .get(wire)
+                    .copied()
+                    .unwrap_or((cells + wire - number.len().min(wire)) as u32)
+            };
+            let mut terms: Vec<(u32, f32)> = form
+                .terms()
+                .iter()
+                .map(|(wire, coef)| (place(wire.position()), *coef))
+                .collect();
+            terms.sort_by_key(|(wire, _)| *wire);
+            terms
+        };
+        let mut stored = Self::empty(Counts {
+            nodes,
+            cursors,
+            leaves,
+            cells,
+            ops: 0,
+            terms: 0,
+        });
+        for slot in 0..leaves {
+            stored.nums[slot] = plan.leaf_node(slot).expect("a leaf has a node") as u32;
+        }
+        for cell in 0..cursors {
+            stored.nums[128 + cell] = plan.cursor_node(cell).expect("a cursor has a node") as u32;
+        }
+        for (place, node) in plan.report_order().iter().enumerate() {
+            stored.nums[256 + place] = *node as u32;
+        }
+        for op in lowered.circuit().ops() {
+            match op {
+                Op::Affine(form) => stored.op(1, (form.bias(), &terms(form)), (0.0, &[])),
+                Op::Reglu { left, gate } => {
+                    stored.op(2, (left.bias(), &terms(left)), (gate.bias(), &terms(gate)))
+                }
+            }
+        }
+        let outputs = lowered.outputs();
+        for node in 0..nodes {
+            let status = &outputs.status[node];
+            let bits = [
+                &status.success,
+                &status.failure,
+                &status.running,
+                &outputs.reached[node],
+                &outputs.halted[node],
+                &outputs.next_running[node],
+            ];
+            for (k, bit) in bits.into_iter().enumerate() {
+                stored.output(6 * node + k, bit.form().bias(), &terms(bit.form()));
+            }
+        }
+        for cell in 0..cursors {
+            let form = &outputs.next_cursor[cell];
+            stored.output(6 * nodes + cell, form.bias(), &terms(form));
+        }
+        stored
+    }
+}
