@@ -33,13 +33,13 @@ use Rattle.builder.specs.Bits.{bitForm, isTrue, isFalse, minusIn, reluIn
 
 -- ---- constants, and what is known of a form
 
-stands-one : {ws : List ℕ} {cs : List Float} {room : Room} → Holds ws cs room (constantForm one32) (S.constant (number 1))
+pub stands-one : {ws : List ℕ} {cs : List Float} {room : Room} → Holds ws cs room (constantForm one32) (S.constant (number 1))
 stands-one = rw number-one (holds-constant one32)
 
-stands-zero : {ws : List ℕ} {cs : List Float} {room : Room} → Holds ws cs room (constantForm zero32) (S.constant (number 0))
+pub stands-zero : {ws : List ℕ} {cs : List Float} {room : Room} → Holds ws cs room (constantForm zero32) (S.constant (number 0))
 stands-zero = rw number-zero (holds-constant zero32)
 
-stands-bit : {ws : List ℕ} {cs : List Float} {room : Room} (t : Bool) → Holds ws cs room (bitForm t) (S.constant (number (bit t)))
+pub stands-bit : {ws : List ℕ} {cs : List Float} {room : Room} (t : Bool) → Holds ws cs room (bitForm t) (S.constant (number (bit t)))
 stands-bit true = stands-one
 stands-bit false = stands-zero
 

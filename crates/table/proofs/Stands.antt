@@ -49,14 +49,18 @@ gives-kept h q = record { form = h; ops = q }
 pub lasts-kept : {m : Mem} {b : Builder} (need k : ℕ) → Lasts m b b need k
 lasts-kept need k = record { lasts = λ t c o a. (t, omega arith, omega arith) }
 
-pub lasts-then : {m : Mem} {b : Builder} {m′ : Mem} {b′ b″ : Builder} {n k n′ k′ : ℕ} → Grown m b m′ b′ → Lasts m b b′ n k → Lasts m′ b′ b″ n′ k′ → Lasts m b b″ (n + n′) (k + k′)
-lasts-then {m} {m′ = m′} g h l = record {
+pub lasts-on : {m : Mem} {b : Builder} {m′ : Mem} {b′ b″ : Builder} {n k n′ k′ : ℕ} → Grows (m .wires) (m .coefs) (b .room) (m′ .wires) (m′ .coefs) (b′ .room) → b′ .cells ≡ b .cells
+    → Lasts m b b′ n k → Lasts m′ b′ b″ n′ k′ → Lasts m b b″ (n + n′) (k + k′)
+lasts-on {m} {m′ = m′} g e h l = record {
   lasts = λ t c o a.
-      let s : termSlots (length (m′ .wires)) (length (m′ .coefs)) ≡ termSlots (length (m .wires)) (length (m .coefs)) = λ i. termSlots (g .arena .wires i) (g .arena .coefs i) in
+      let s : termSlots (length (m′ .wires)) (length (m′ .coefs)) ≡ termSlots (length (m .wires)) (length (m .coefs)) = λ i. termSlots (g .wires i) (g .coefs i) in
       let p = h .lasts t c (omega arith) (omega arith) in
-      let q = l .lasts (p .0) (omega (arith, g .cells)) (omega (arith, p .2)) (omega (arith, p .1)) in
+      let q = l .lasts (p .0) (omega (arith, e)) (omega (arith, p .2)) (omega (arith, p .1)) in
       (q .0, omega (arith, p .1, q .1), omega (arith, p .2, q .2));
 }
+
+pub lasts-then : {m : Mem} {b : Builder} {m′ : Mem} {b′ b″ : Builder} {n k n′ k′ : ℕ} → Grown m b m′ b′ → Lasts m b b′ n k → Lasts m′ b′ b″ n′ k′ → Lasts m b b″ (n + n′) (k + k′)
+lasts-then g h l = lasts-on (g .arena) (g .cells) h l
 
 pub lasts-wide : {m : Mem} {b b′ : Builder} {n k : ℕ} (n′ k′ : ℕ) → n ≤ n′ → k ≤ k′ → Lasts m b b′ n k → Lasts m b b′ n′ k′
 lasts-wide n′ k′ a c h = record { lasts = λ t d o e. let r = h .lasts t d (omega arith) (omega arith) in (r .0, omega (arith, r .1), omega (arith, r .2)) }
@@ -68,13 +72,13 @@ is-still : {ws : List ℕ} {cs : List Float} {room : Room} {ws′ : List ℕ} {c
 is-still g q = record { below = omega (arith, g .more, q .below); terms = g .keeps _ _ (q .below) ∙ q .terms; bias = q .bias }
 
 -- ops whose slots stay
-ops-still : (m : Mem) (b : Builder) (m′ : Mem) (b′ : Builder) (os : List (Op Affine)) → Grows (m .wires) (m .coefs) (b .room) (m′ .wires) (m′ .coefs) (b′ .room)
-    → ((k : ℕ) → k < opsFrom + 2 * length os → loaded m′ k ≡ loaded m k) → OpsAt m (b .room .used) os → OpsAt m′ (b′ .room .used) os
+pub ops-still : (m : Mem) (b : Builder) (m′ : Mem) (b′ : Builder) (os : List (Op Affine)) → Grows (m .wires) (m .coefs) (b .room) (m′ .wires) (m′ .coefs) (b′ .room)
+    → ((k : ℕ) → opsFrom ≤ k → k < opsFrom + 2 * length os → loaded m′ k ≡ loaded m k) → OpsAt m (b .room .used) os → OpsAt m′ (b′ .room .used) os
 ops-still m b m′ b′ [] g s h = tt
 ops-still m b m′ b′ (o ∷ os) g s h = (
-  rw (s (opsFrom + 2 * length os) (omega arith)) (is-still g (h .0)),
-  rw (s (opsFrom + 2 * length os + 1) (omega arith)) (is-still g (h .1)),
-  ops-still m b m′ b′ os g (λ k l. s k (omega arith)) (h .2),
+  rw (s (opsFrom + 2 * length os) (omega arith) (omega arith)) (is-still g (h .0)),
+  rw (s (opsFrom + 2 * length os + 1) (omega arith) (omega arith)) (is-still g (h .1)),
+  ops-still m b m′ b′ os g (λ k a l. s k a (omega arith)) (h .2),
 )
 
 module _ (m : Mem) (b : Builder) (o : A.Outcome) where
@@ -89,7 +93,7 @@ module _ (m : Mem) (b : Builder) (o : A.Outcome) where
         ops = record {
           holds = λ t.
               let z = q .holds (g .was t) in
-              record { count = z .count; all = ops-still m b (inArena m b o .mem) (inArena m b o .builder) os g (λ k l. refl) (z .all) };
+              record { count = z .count; all = ops-still m b (inArena m b o .mem) (inArena m b o .builder) os g (λ k a l. refl) (z .all) };
         };
       }
 
@@ -155,14 +159,14 @@ module _ (m : Mem) (b : Builder) where
 
 -- a slot that was saved, and every other
 module _ (m : Mem) (k : ℕ) (f : Form) where
-  saved-own : Whole (m .nums) (m .biases) → k < slotsMost → loaded (saved m k f) k ≡ f
+  pub saved-own : Whole (m .nums) (m .biases) → k < slotsMost → loaded (saved m k f) k ≡ f
   saved-own t h =
       let e0 = getD-set-same (m .biases) k (f .bias) nan (omega (arith, t .1)) in
       let e1 = getD-set-other (set (m .nums) (2 * k) (f .first)) (2 * k + 1) (2 * k) (f .len) 0 (λ q. omega arith) ∙ getD-set-same (m .nums) (2 * k) (f .first) 0 (omega (arith, t .0)) in
       let e2 = getD-set-same (set (m .nums) (2 * k) (f .first)) (2 * k + 1) (f .len) 0 (omega (arith, t .0, length-set (m .nums) (2 * k) (f .first))) in
       λ i. record { bias = e0 i; first = e1 i; len = e2 i }
 
-  saved-other : (j : ℕ) → (j ≡ k → ⊥) → loaded (saved m k f) j ≡ loaded m j
+  pub saved-other : (j : ℕ) → (j ≡ k → ⊥) → loaded (saved m k f) j ≡ loaded m j
   saved-other j n =
       let r0 = getD-set-other (m .biases) k j (f .bias) nan n in
       let r1 =
@@ -173,10 +177,10 @@ module _ (m : Mem) (k : ℕ) (f : Form) where
       ∙ getD-set-other (m .nums) (2 * k) (2 * j + 1) (f .first) 0 (λ q. omega arith) in
       λ i. record { bias = r0 i; first = r1 i; len = r2 i }
 
-  saved-nums : length (saved m k f .nums) ≡ length (m .nums)
+  pub saved-nums : length (saved m k f .nums) ≡ length (m .nums)
   saved-nums = simp length-set
 
-  saved-biases : length (saved m k f .biases) ≡ length (m .biases)
+  pub saved-biases : length (saved m k f .biases) ≡ length (m .biases)
   saved-biases = simp length-set
 
 module _ (m : Mem) (b : Builder) (left gate : Form) where
@@ -232,7 +236,7 @@ module _ (m : Mem) (b : Builder) (left gate : Form) where
             let g : loaded with-op (opsFrom + 2 * length os + 1) ≡ gate = rw (← n) (saved-own m1 (opsFrom + 2 * b .ops + 1) gate w1 (omega arith)) in
             record {
               count = add-one (b .ops) ∙ ap suc n;
-              all = (rw l (hx .holds t), rw g (hy .holds t), ops-still m b with-op counted os grows-none (λ k o. op-other k (omega arith)) (z .all));
+              all = (rw l (hx .holds t), rw g (hy .holds t), ops-still m b with-op counted os grows-none (λ k a o. op-other k (omega arith)) (z .all));
             };
       }
 

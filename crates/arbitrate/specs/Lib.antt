@@ -1,0 +1,2 @@
+pub mod Arbitrate
+pub mod Flat

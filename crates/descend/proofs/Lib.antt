@@ -1,0 +1,3 @@
+pub mod Families
+pub mod Made
+pub mod Bounds
