@@ -1,5 +1,6 @@
 -- Ops, terms and arena room of the circuit of a tree.
 use Prim.Native.Nat.{_*_, _+_, _-_, _≤_, ℕ}
+use native.Mathlib.Nat.{mul-le-mul-left}
 use native.Mathlib.Omega.{arith}
 use mathlib.Core.List.{List, [], _++_, _∷_, reverse, reverseAux}
 use mathlib.Core.Path.{_≡_, refl}
@@ -11,10 +12,10 @@ use Rattle.counts.proofs.Ops.{op-bound, op-room}
 use Rattle.counts.proofs.Room.{arena-bound}
 use Rattle.counts.proofs.Terms.{opTerms}
 use Rattle.counts.proofs.Total.{circuitTerms, formTerms, outTerms, term-bound}
-use Rattle.counts.specs.Arena.{arena}
 use Rattle.meaning.proofs.Sizes.{sizes}
 use Rattle.meaning.specs.Means.{circuitOf}
 use Rattle.tree.specs.Forest.{Forest, counts, preorder, size}
+use Rattle.uses.specs.Uses.{arenaUse}
 use Rattle.walk.specs.Walk.{cellsIn}
 
 -- the circuit's terms are those that the passes leave
@@ -72,5 +73,9 @@ module _ (f : Forest ℕ) where
   pub terms-most : termCount pairs (circuitOf f) ≤ 31 * (size f * size f)
   terms-most = rw (← sizes f .nodes) (omega (arith, all-terms ns, term-bound ns))
 
-  pub arena-most : arena ns ≤ 32 * (size f * size f)
+  pub arena-most : arenaUse pairs ns ≤ 15 * (size f * size f) + 34 * size f
   arena-most = rw (← sizes f .nodes) (arena-bound ns)
+
+  -- with at most 128 nodes
+  pub arena-room : size f ≤ 128 → arenaUse pairs ns ≤ 262144
+  arena-room few = omega (arith, arena-most, mul-le-mul-left (size f) few)

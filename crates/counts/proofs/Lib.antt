@@ -1,7 +1,10 @@
 pub mod Ops
 pub mod Sets
+pub mod Rises
 pub mod Terms
+pub mod Joint
 pub mod Sized
 pub mod Total
 pub mod Room
 pub mod Circuit
+pub mod Slots

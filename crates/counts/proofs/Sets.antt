@@ -23,10 +23,10 @@ infixl 20 _∪_
 abbrev pub _∪_ : Set → Set → Set
 (p ∪ q) w = p w || q w
 
-pub nothing : Set
+unfoldable pub nothing : Set
 nothing w = false
 
-pub single : ℕ → Set
+unfoldable pub single : ℕ → Set
 single v w = eqb v w
 
 pub nothing-card : (n : ℕ) → card n nothing ≡ 0
@@ -105,7 +105,7 @@ module _ (p : Set) where
   insert-in t [] h k = (h, tt)
   insert-in t (u ∷ us) h k = insertAt-in (compare (t .wire) (u .wire)) t u us (insert t us) h k (insert-in t us h (k .1))
 
-  merge-in : (ts us : List Term) → Ins p ts → Ins p us → Ins p (merge ts us)
+  pub merge-in : (ts us : List Term) → Ins p ts → Ins p us → Ins p (merge ts us)
   unfolding merge
   merge-in [] us h k = k
   merge-in (t ∷ ts) us h k = insert-in t (merge ts us) (h .0) (merge-in ts us (h .1) k)

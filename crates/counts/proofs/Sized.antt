@@ -2,7 +2,7 @@
 use Prim.Native.Nat.{_*_, _+_, _≤_, suc, zero, ℕ}
 use native.Mathlib.Nat.{mul-le-mul-left}
 use native.Mathlib.Omega.{arith}
-use mathlib.Core.Bool.{Bool, false, true}
+use mathlib.Core.Bool.{Bool, false, not, true}
 use mathlib.Core.List.{List, [], _∷_}
 use mathlib.Core.Path.{_≡_, refl}
 use lib.ListN.{drop, length, take}
@@ -11,10 +11,13 @@ use Rattle.construct.specs.Circuit.{cellEnd, slotEnd}
 use Rattle.construct.specs.Lower.{Flat, cellAfter, clears, cursorF, fixed, fixedT, force, forced, gates, invert, inverted, inverteds, leaf, leafT, lower, lowerSeq, ordered, picks, slotAfter, stops, top, total, up, upStep}
 use Rattle.construct.specs.Pairs.{Form, Info, Kid3, Op, Ordered, Trip, Up, constant, len, pairs, plus, wire′}
 use Rattle.construct.specs.Scope.{Reads}
-use Rattle.counts.proofs.Sets.{_∪_, in-left, in-right, not-in, nothing, nothing-card, own, own-card, own-in, plus-in, set-len, union-card}
-use Rattle.counts.proofs.Terms.{K3, Shared, TripFit, afters, clears-cost, crossed, gates-cost, opTerms, picks-cost, shared, sqL, stops-cost, sumL}
+use Rattle.counts.proofs.Sets.{_∪_, card, in-left, in-right, not-in, nothing, nothing-card, own, own-card, own-in, plus-in, set-len, union-card}
+use Rattle.counts.proofs.Rises.{constant-rises, wire-rises}
+use Rattle.counts.proofs.Joint.{Shared, clears-traced, shared, stops-traced}
+use Rattle.counts.proofs.Terms.{K3, TripFit, afters, clears-cost, crossed, gates-cost, opTerms, picks-cost, sqL, stops-cost, sumL}
 use Rattle.walk.proofs.Lists.{all2-drop, all2-take}
 use Rattle.walk.specs.Lists.{All, All2, both, none}
+use Rattle.walk.specs.Kind.{bit}
 use Rattle.walk.specs.Walk.{status}
 
 -- lists of sizes
@@ -50,16 +53,12 @@ thin (both h hs) = (h .reach, thin hs)
 module _ (n0 : ℕ) where
   pub record SeqFit (ms : List ℕ) (os : List Op) (o : Ordered) : Type 0 where
     pub cost : opTerms (o .ops) ≤ opTerms os + 31 * sumL ms + 3 * length ms + 6 * crossed 0 ms
-    pub later : afters (o .kids) ≤ 12 * crossed 0 ms + 11 * length ms
+    pub later : afters (o .kids) ≤ 8 * crossed 0 ms + 11 * length ms
     pub reach : All Thin (o .kids)
     pub status : Shared n0 (sumL ms) (o .status .s) (o .status .f)
     pub run : len (o .status .r) ≤ sumL ms
     pub zero-run : o .status .r .bp ≡ o .status .r .bn
     pub cur : len (o .cur) ≤ sumL ms
-
-  zero-shared : Shared n0 0 (constant 0) (constant 0)
-  unfolding constant
-  zero-shared = record { set = nothing; small = λ n. omega (arith, nothing-card n); in-f = tt; in-g = tt }
 
   none-long : len (constant 0) ≡ 0
   unfolding constant
@@ -82,16 +81,17 @@ module _ (n0 : ℕ) where
       let hb = clears-cost n0 z 0 (a .ops) (omega arith) (ha .1) in
       let hd = stops-cost n0 z 0 (b .ops) (omega arith) (hb .1) in
       let he = picks-cost n0 0 z z z 0 0 (d .ops) (omega arith) none-even (omega arith) (hd .1) in
-      let s = shared n0 0 z z z z 0 (d .ops) zero-shared (hd .1) in
+      let tr = clears-traced n0 z (a .ops) (constant-rises 0) (ha .1) in
+      let s = shared n0 (d .ops) (hd .1) (stops-traced n0 z (b .ops) (rw zl at tr)) in
       let c₁ : opTerms (a .ops) ≤ opTerms os + 6 * sumL ms = ha .0 in
-      let c₂ : opTerms (b .ops) ≤ opTerms (a .ops) + 6 * crossed 0 ms = hb .0 in
+      let c₂ : opTerms (b .ops) ≤ opTerms (a .ops) + 4 * crossed 0 ms = hb .0 in
       let c₃ : opTerms (d .ops) ≤ opTerms (b .ops) + 6 * sumL ms + 3 * length ms = hd .0 in
       let c₄ : opTerms (e .ops) ≤ opTerms (d .ops) + 19 * sumL ms = he .cost in
       record {
         cost = omega arith;
         later = hd .2;
         reach = thin (hd .1);
-        status = record { set = s .set; small = λ n. omega (arith, s .small n); in-f = not-in (s .set) (total pairs z (d .items)) (s .in-f); in-g = s .in-g };
+        status = record { set = s .set; small = s .small; in-f = not-in (s .set) (total pairs z (d .items)) (s .in-f); in-g = s .in-g };
         run = omega (arith, he .run);
         zero-run = he .zero-run;
         cur = omega (arith, he .cur);
@@ -99,7 +99,7 @@ module _ (n0 : ℕ) where
 
   inverted-fit : (t : Trip) (m : ℕ) → TripFit t m → TripFit (inverted t) m
   unfolding inverted
-  inverted-fit t m h = record { pos = h .pos; set = h .set; small = h .small; in-s = h .in-f; in-f = h .in-s; len-s = h .len-f; len-f = h .len-s; len-r = h .len-r; zero-r = h .zero-r }
+  inverted-fit t m h = record { pos = h .pos; set = h .set; small = h .small; in-s = h .in-f; in-f = h .in-s; rise-s = h .rise-f; rise-f = h .rise-s; len-s = h .len-f; len-f = h .len-s; len-r = h .len-r; zero-r = h .zero-r }
 
   pub inverteds-fit : {ts : List Trip} {ms : List ℕ} → All2 TripFit ts ms → All2 TripFit (inverteds ts) ms
   unfolding inverteds
@@ -132,6 +132,8 @@ module _ (n0 : ℕ) where
         small = λ k. omega (arith, s .small k);
         in-s = s .in-f;
         in-f = s .in-g;
+        rise-s = (n, t .s);
+        rise-f = (n, t .f);
         len-s = omega (arith, s .small n, set-len (s .set) n (o .status .s) (t .s) (s .in-f));
         len-f = omega (arith, s .small n, set-len (s .set) n (o .status .f) (t .f) (s .in-g));
         len-r = omega (arith, h .run);
@@ -145,6 +147,8 @@ module _ (n0 : ℕ) where
     small = λ n. omega (arith, h .small n);
     in-s = h .in-s;
     in-f = h .in-f;
+    rise-s = h .rise-s;
+    rise-f = h .rise-f;
     len-s = omega (arith, h .len-s);
     len-f = omega (arith, h .len-f);
     len-r = omega (arith, h .len-r);
@@ -153,16 +157,22 @@ module _ (n0 : ℕ) where
 
   pub fixed-fit : (b : Bool) → TripFit (fixedT pairs b) 1
   unfolding fixedT constant
-  fixed-fit b = record { pos = omega arith; set = nothing; small = λ n. omega (arith, nothing-card n); in-s = tt; in-f = tt; len-s = omega arith; len-f = omega arith; len-r = omega arith; zero-r = refl }
+  fixed-fit b = record { pos = omega arith; set = nothing; small = λ n. omega (arith, nothing-card n); in-s = tt; in-f = tt; rise-s = constant-rises (bit b); rise-f = constant-rises (bit (not b)); len-s = omega arith; len-f = omega arith; len-r = omega arith; zero-r = refl }
 
   pub top-fit : {st : List Trip} {ms : List ℕ} → All2 TripFit st ms → TripFit (top (fixedT pairs true) st) (suc (sumL (take 1 ms)))
   unfolding sumL
   top-fit none = fixed-fit true
   top-fit (both {a = t} {b = m} h hs) = fit-up t m (suc (m + 0)) h (omega arith)
 
-  forced-fit : (b : Bool) (t : Trip) (m n : ℕ) → TripFit t m → Reads n (plus (t .s) (t .f)) → TripFit (forced pairs b t) m
+  -- a decorator's node pays for one wire more
+  top-spare : {st : List Trip} {ms : List ℕ} (h : All2 TripFit st ms) (n : ℕ) → card n (top-fit h .set) + 3 ≤ 4 * suc (sumL (take 1 ms))
+  unfolding sumL top-fit fit-up fixed-fit
+  top-spare none n = omega (arith, nothing-card n)
+  top-spare (both {a = t} {b = m} h hs) n = omega (arith, h .small n)
+
+  forced-fit : (b : Bool) (t : Trip) (m n : ℕ) (h : TripFit t m) → ((k : ℕ) → card k (h .set) + 3 ≤ 4 * m) → Reads n (plus (t .s) (t .f)) → TripFit (forced pairs b t) m
   unfolding forced constant
-  forced-fit true t m n h r =
+  forced-fit true t m n h spare r =
       let i = plus-in (h .set) (t .s) (t .f) (h .in-s) (h .in-f) in
       record {
         pos = h .pos;
@@ -170,12 +180,14 @@ module _ (n0 : ℕ) where
         small = h .small;
         in-s = i;
         in-f = tt;
-        len-s = omega (arith, h .small n, set-len (h .set) n (plus (t .s) (t .f)) r i);
+        rise-s = (n, r);
+        rise-f = constant-rises 0;
+        len-s = omega (arith, spare n, set-len (h .set) n (plus (t .s) (t .f)) r i);
         len-f = omega (arith, h .pos);
         len-r = h .len-r;
         zero-r = h .zero-r;
       }
-  forced-fit false t m n h r =
+  forced-fit false t m n h spare r =
       let i = plus-in (h .set) (t .s) (t .f) (h .in-s) (h .in-f) in
       record {
         pos = h .pos;
@@ -183,7 +195,9 @@ module _ (n0 : ℕ) where
         small = h .small;
         in-s = tt;
         in-f = i;
-        len-f = omega (arith, h .small n, set-len (h .set) n (plus (t .s) (t .f)) r i);
+        rise-s = constant-rises 0;
+        rise-f = (n, r);
+        len-f = omega (arith, spare n, set-len (h .set) n (plus (t .s) (t .f)) r i);
         len-s = omega (arith, h .pos);
         len-r = h .len-r;
         zero-r = h .zero-r;
@@ -201,6 +215,8 @@ module _ (n0 : ℕ) where
           small = λ n. omega (arith, union-card n (own a) (own b), own-card n a, own-card n b);
           in-s = in-left (own a) (own b) a (own-in a);
           in-f = in-right (own a) (own b) b (own-in b);
+          rise-s = wire-rises (nC + 3 * s);
+          rise-f = wire-rises (nC + 3 * s + 1);
           len-s = omega arith;
           len-f = omega arith;
           len-r = omega arith;
@@ -298,7 +314,7 @@ module _ (n0 nN nC : ℕ) where
   step-fit (fixed b) ms s c l u h i = plain-fit (fixed b) (fixedT pairs b) 0 ms l u h (rw (no-sum ms) (fixed-fit n0 b)) (no-sq ms)
   step-fit invert ms s c l u h i = plain-fit invert (inverted (top (fixedT pairs true) (u .stack))) 1 ms l u h (inverted-fit n0 (top (fixedT pairs true) (u .stack)) (suc (sumL (take 1 ms))) (top-fit n0 (h .stack))) (one-sq ms)
   step-fit (force b) ms s c l u h i = plain-fit (force b) (forced pairs b (top (fixedT pairs true) (u .stack))) 1 ms l u h
-      (forced-fit n0 b (top (fixedT pairs true) (u .stack)) (suc (sumL (take 1 ms))) (n0 + length (u .ops)) (top-fit n0 (h .stack)) (go b (i .stack .0))) (one-sq ms)
+      (forced-fit n0 b (top (fixedT pairs true) (u .stack)) (suc (sumL (take 1 ms))) (n0 + length (u .ops)) (top-fit n0 (h .stack)) (top-spare n0 (h .stack)) (go b (i .stack .0))) (one-sq ms)
     where
       go : (b : Bool) → TripIn n0 (u .ops) (forced pairs b (top (fixedT pairs true) (u .stack))) → Reads (n0 + length (u .ops)) (plus (top (fixedT pairs true) (u .stack) .s) (top (fixedT pairs true) (u .stack) .f))
       go true t = t .s

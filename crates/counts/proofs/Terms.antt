@@ -3,15 +3,16 @@ use Prim.Native.Nat.{_*_, _+_, _≤_, suc, ℕ}
 use native.Mathlib.Omega.{arith}
 use mathlib.Core.Bool.{Bool, false, true}
 use mathlib.Core.List.{List, [], _∷_}
-use mathlib.Core.Path.{_≡_, refl, sym}
+use mathlib.Core.Path.{_≡_, refl}
 use lib.Dec.{eqb}
 use lib.ListN.{length}
 use Rattle.construct.proofs.Bits.{eq→eqb, is-true}
 use Rattle.construct.specs.Builder.{and, andAt, atLeast, atLeastAt, isZero, isZeroAt, not′, or, orAt, push, relu, step}
 use Rattle.construct.specs.Forms.{Known, No, Open, Yes}
-use Rattle.construct.specs.Lower.{clears, gates, picks, stops, total}
-use Rattle.construct.specs.Pairs.{Form, Kid1, Kid2, Kid3, Op, Picked, Term, Trip, constant, empty, known, knownAt, len, offset, pairs, plus, scaled, wire′}
-use Rattle.counts.proofs.Sets.{Ins, Set, _∪_, card, in-left, in-none, in-right, minus-len, negate-len, not-len, own, own-card, own-in, plus-in, plus-len, scaled-len, single, single-card, union-card, wire-in}
+use Rattle.construct.specs.Lower.{clears, gates, picks, stops}
+use Rattle.construct.specs.Pairs.{Form, Kid1, Kid2, Kid3, Op, Picked, Trip, constant, empty, known, knownAt, len, offset, pairs, plus, scaled, wire′}
+use Rattle.counts.proofs.Sets.{Ins, Set, card, minus-len, negate-len, not-len, plus-len, scaled-len}
+use Rattle.counts.proofs.Rises.{Rises, atLeast-rises, not-rises, or-rises}
 use Rattle.walk.specs.Lists.{All2, both, none}
 
 unfoldable pub opTerms : List Op → ℕ
@@ -113,18 +114,21 @@ module _ (n0 : ℕ) where
 pub record TripFit (t : Trip) (m : ℕ) : Type 0 where
   pub pos : 1 ≤ m
   pub set : Set
-  pub small : (n : ℕ) → card n set + 4 ≤ 6 * m
+  pub small : (n : ℕ) → card n set + 2 ≤ 4 * m
   pub in-s : Ins set (t .s .terms)
   pub in-f : Ins set (t .f .terms)
-  pub len-s : len (t .s) + 4 ≤ 6 * m
-  pub len-f : len (t .f) + 4 ≤ 6 * m
+  pub rise-s : Rises (t .s)
+  pub rise-f : Rises (t .f)
+  pub len-s : len (t .s) + 3 ≤ 4 * m
+  pub len-f : len (t .f) + 3 ≤ 4 * m
   pub len-r : len (t .r) ≤ m
   pub zero-r : t .r .bp ≡ t .r .bn
 
 pub record K1 (x : Kid1) (m : ℕ) : Type 0 where
   pub trip : TripFit (x .trip) m
   pub before : len (x .before) ≤ 2
-  pub blocked : len (x .blocked) + 1 ≤ 6 * m
+  pub blocked : len (x .blocked) ≤ 4 * m
+  pub rise : Rises (x .blocked)
 
 pub record K2 (x : Kid2) (m : ℕ) : Type 0 where
   pub kid : K1 (x .kid) m
@@ -133,7 +137,7 @@ pub record K2 (x : Kid2) (m : ℕ) : Type 0 where
 pub record K3 (x : Kid3) (m : ℕ) : Type 0 where
   pub trip : TripFit (x .trip) m
   pub reach : len (x .reach) ≤ 2
-  pub stop : len (x .stop) + 1 ≤ 6 * m
+  pub stop : len (x .stop) ≤ 4 * m
 
 -- what reach will pay for the children
 unfoldable pub afters : List Kid3 → ℕ
@@ -151,11 +155,12 @@ module _ (n0 : ℕ) where
       let a = atLeast-cost n0 (known c) c (suc k) os l in
       let b = or-cost n0 (o₁ .form) (t .s) (o₁ .ops) in
       let r = gates-cost c (suc k) (o₂ .ops) l hs in
-      let bl : len (not′ pairs (o₂ .form)) + 1 ≤ 6 * m = omega (arith, not-len (o₂ .form), b .1, a .1, h .len-s) in
-      (omega (arith, a .0, a .1, b .0, r .0, h .len-s), both (record { trip = h; before = a .1; blocked = bl }) (r .1))
+      let bl : len (not′ pairs (o₂ .form)) ≤ 4 * m = omega (arith, not-len (o₂ .form), b .1, a .1, h .len-s) in
+      let ri = not-rises (o₂ .form) (or-rises n0 (o₁ .form) (t .s) (o₁ .ops) (atLeast-rises n0 c (suc k) os) (h .rise-s)) in
+      (omega (arith, a .0, a .1, b .0, r .0, h .len-s), both (record { trip = h; before = a .1; blocked = bl; rise = ri }) (r .1))
 
-  pub clears-cost : (p : Form) (a : ℕ) {xs : List Kid1} {ms : List ℕ} (os : List Op) → len p ≤ 6 * a → All2 K1 xs ms
-      → (opTerms (clears pairs n0 p xs os .ops) ≤ opTerms os + 6 * crossed a ms) × All2 K2 (clears pairs n0 p xs os .items) ms
+  pub clears-cost : (p : Form) (a : ℕ) {xs : List Kid1} {ms : List ℕ} (os : List Op) → len p ≤ 4 * a → All2 K1 xs ms
+      → (opTerms (clears pairs n0 p xs os .ops) ≤ opTerms os + 4 * crossed a ms) × All2 K2 (clears pairs n0 p xs os .items) ms
   unfolding clears isZero crossed
   clears-cost p a os l none = (omega arith, none)
   clears-cost p a os l (both {a = x} {b = m} {xs = xs} {ys = ms} h hs) =
@@ -163,9 +168,9 @@ module _ (n0 : ℕ) where
       let r = clears-cost (plus p (x .blocked)) (a + m) (isZero pairs n0 p os .ops) (omega (arith, plus-len p (x .blocked), h .blocked)) hs in
       (omega (arith, z .0, r .0), both (record { kid = h; clear = z .1 }) (r .1))
 
-  pub stops-cost : (p : Form) (a : ℕ) {xs : List Kid2} {ms : List ℕ} (os : List Op) → len p ≤ 6 * a → All2 K2 xs ms
+  pub stops-cost : (p : Form) (a : ℕ) {xs : List Kid2} {ms : List ℕ} (os : List Op) → len p ≤ 4 * a → All2 K2 xs ms
       → (opTerms (stops pairs n0 p xs os .ops) ≤ opTerms os + 6 * sumL ms + 3 * length ms) × All2 K3 (stops pairs n0 p xs os .items) ms
-      × (afters (stops pairs n0 p xs os .items) ≤ 12 * crossed a ms + 11 * length ms)
+      × (afters (stops pairs n0 p xs os .items) ≤ 8 * crossed a ms + 11 * length ms)
   unfolding stops sumL crossed afters
   stops-cost p a os l none = (omega arith, none, omega arith)
   stops-cost p a os l (both {a = x} {b = m} {xs = xs} {ys = ms} h hs) =
@@ -179,17 +184,18 @@ module _ (n0 : ℕ) where
       let e₁ = and-cost n0 (x .clear) (not′ pairs (x .kid .before)) os in
       let e₂ = and-cost n0 (x .clear) (x .kid .blocked) (o₁ .ops) in
       let l₁ = and-len n0 (x .clear) (not′ pairs (x .kid .before)) os 3 (omega arith) (omega arith) (omega arith) in
-      let l₂ = and-len n0 (x .clear) (x .kid .blocked) (o₁ .ops) (6 * m) (omega arith) b₂ (omega arith) in
+      let l₂ = and-len n0 (x .clear) (x .kid .blocked) (o₁ .ops) (4 * m + 1) (omega arith) (omega arith) (omega arith) in
       let r = stops-cost (plus p (o₂ .form)) (a + m) (o₂ .ops) (omega (arith, plus-len p (o₂ .form), l₂)) hs in
       let re : len (o₁ .form) ≤ 2 = omega (arith, l₁) in
-      (omega (arith, e₁, e₂, r .0), both (record { trip = h .kid .trip; reach = re; stop = l₂ }) (r .1), omega (arith, r .2))
+      let st : len (o₂ .form) ≤ 4 * m = omega (arith, l₂) in
+      (omega (arith, e₁, e₂, r .0), both (record { trip = h .kid .trip; reach = re; stop = st }) (r .1), omega (arith, r .2))
 
-abbrev NotYes : Known → Type 0
+abbrev pub NotYes : Known → Type 0
 NotYes Yes = ⊥
 NotYes No = Unit {0}
 NotYes Open = Unit {0}
 
-not-yes : (f : Form) → f .bp ≡ f .bn → NotYes (known f)
+pub not-yes : (f : Form) → f .bp ≡ f .bn → NotYes (known f)
 unfolding known knownAt
 not-yes f e = rw (is-true (eqb (f .bp) (f .bn)) (eq→eqb (f .bp) (f .bn) e)) (go (empty (f .terms)))
   where
@@ -240,64 +246,3 @@ module _ (n0 : ℕ) where
       let i = picks-cost (suc k) (plus o (o₁ .form)) (plus r (o₂ .form)) (plus c (scaled k (o₂ .form))) (a + m) (b + m) (o₂ .ops)
       (omega (arith, plus-len r (o₂ .form), g .0)) (plus-zero r (o₂ .form) z (g .1)) (omega (arith, plus-len c (scaled k (o₂ .form)), scaled-len k (o₂ .form), g .0)) hs in
       record { cost = omega (arith, i .cost, e₁, e₂, t .len-f, t .len-r); run = omega (arith, i .run); zero-run = i .zero-run; cur = omega (arith, i .cur) }
-
-  -- the stops' sum and the other pick, in one set
-  record Joint (x : Kid3) (g : Form) (m : ℕ) : Type 0 where
-    set : Set
-    small : (n : ℕ) → card n set ≤ 6 * m
-    stop : Ins set (x .stop .terms)
-    pick : Ins set (g .terms)
-
-  no-terms : (t : Known) (f : Form) → known f ≡ t → (t ≡ Open → ⊥) → len f ≡ 0
-  unfolding known knownAt empty
-  no-terms t f e k = go (f .terms) (eqb (f .bp) (f .bn)) e
-    where
-      go : (ts : List Term) (b : Bool) → knownAt (empty ts) b ≡ t → length ts ≡ 0
-      go [] b e = refl
-      go (u ∷ ts) b e = absurd (k (sym e))
-
-  joint-at : (t u : Known) (x : Kid3) (m : ℕ) (os : List Op) → known (x .stop) ≡ t → K3 x m → Joint x (andAt pairs n0 t u (x .stop) (x .trip .f) os .form) m
-  unfolding andAt push constant wire′
-  joint-at Yes u x m os e h = record { set = h .trip .set; small = λ n. omega (arith, h .trip .small n); stop = in-none (h .trip .set) (x .stop .terms) (no-terms Yes (x .stop) e (λ z. let q : _≡_ {A = ℕ} 0 1 = cc in absurd (omega arith))); pick = h .trip .in-f }
-  joint-at No Yes x m os e h = record { set = own (x .stop .terms); small = λ n. omega (arith, own-card n (x .stop .terms), h .stop); stop = own-in (x .stop .terms); pick = own-in (x .stop .terms) }
-  joint-at No No x m os e h = record { set = own (x .stop .terms); small = λ n. omega (arith, own-card n (x .stop .terms), h .stop); stop = own-in (x .stop .terms); pick = tt }
-  joint-at No Open x m os e h = record { set = own (x .stop .terms); small = λ n. omega (arith, own-card n (x .stop .terms), h .stop); stop = own-in (x .stop .terms); pick = tt }
-  joint-at Open Yes x m os e h = record { set = own (x .stop .terms); small = λ n. omega (arith, own-card n (x .stop .terms), h .stop); stop = own-in (x .stop .terms); pick = own-in (x .stop .terms) }
-  joint-at Open No x m os e h = record { set = own (x .stop .terms); small = λ n. omega (arith, own-card n (x .stop .terms), h .stop); stop = own-in (x .stop .terms); pick = tt }
-  joint-at Open Open x m os e h =
-      let p = own (x .stop .terms) in
-      let w = n0 + length os in
-      record {
-        set = p ∪ single w;
-        small = λ n. omega (arith, own-card n (x .stop .terms), h .stop, union-card n p (single w), single-card n w);
-        stop = in-left p (single w) (x .stop .terms) (own-in (x .stop .terms));
-        pick = in-right p (single w) (wire′ w .terms) (wire-in w);
-      }
-
-  joint : (x : Kid3) (m : ℕ) (os : List Op) → K3 x m → Joint x (and pairs n0 (x .stop) (x .trip .f) os .form) m
-  unfolding and
-  joint x m os h = joint-at (known (x .stop)) (known (x .trip .f)) x m os refl h
-
-  pub record Shared (a : ℕ) (f g : Form) : Type 0 where
-    pub set : Set
-    pub small : (n : ℕ) → card n set ≤ 6 * a
-    pub in-f : Ins set (f .terms)
-    pub in-g : Ins set (g .terms)
-
-  pub shared : (k : ℕ) (acc o r c : Form) (a : ℕ) {xs : List Kid3} {ms : List ℕ} (os : List Op) → Shared a acc o → All2 K3 xs ms → Shared (a + sumL ms) (total pairs acc xs) (picks pairs n0 k o r c xs os .oth)
-  unfolding picks total sumL
-  shared k acc o r c a os s none = record { set = s .set; small = λ n. omega (arith, s .small n); in-f = s .in-f; in-g = s .in-g }
-  shared k acc o r c a os s (both {a = x} {b = m} {xs = xs} {ys = ms} h hs) =
-      let o₁ = and pairs n0 (x .stop) (x .trip .f) os in
-      let o₂ = and pairs n0 (x .stop) (x .trip .r) (o₁ .ops) in
-      let j = joint x m os h in
-      let p = s .set in
-      let q = j .set in
-      let i = shared (suc k) (plus acc (x .stop)) (plus o (o₁ .form)) (plus r (o₂ .form)) (plus c (scaled k (o₂ .form))) (a + m) (o₂ .ops)
-      (record {
-        set = p ∪ q;
-        small = λ n. omega (arith, union-card n p q, s .small n, j .small n);
-        in-f = plus-in (p ∪ q) acc (x .stop) (in-left p q (acc .terms) (s .in-f)) (in-right p q (x .stop .terms) (j .stop));
-        in-g = plus-in (p ∪ q) o (o₁ .form) (in-left p q (o .terms) (s .in-g)) (in-right p q (o₁ .form .terms) (j .pick));
-      }) hs in
-      record { set = i .set; small = λ n. omega (arith, i .small n); in-f = i .in-f; in-g = i .in-g }

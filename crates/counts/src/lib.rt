@@ -1,1 +1,1 @@
-// How many ops and terms a circuit has, and how many terms building it takes, as laws only: see specs/ and proofs/.
+// How many ops and terms a circuit has, and how many terms building it takes, as laws only: see proofs/.

@@ -15,9 +15,10 @@ use Rattle.construct.specs.Circuit.{Built, Output, build, cellEnd, cellsN, cell
 use Rattle.construct.specs.Forms.{Forms}
 use Rattle.construct.specs.Lower.{Flat, cellAfter, down, flags, slotAfter, up}
 use Rattle.construct.specs.Pairs.{Down, Form, NOut, Op, Trip, Up, constant, pairs}
-use Rattle.instances.proofs.Down.{Falls, down-sim, flags-sim, ofDown, ofEntry, ofOut}
+use Rattle.instances.proofs.Down.{EntryFit, Falls, down-sim, flags-sim, ofDown, ofEntry, ofOut}
 use Rattle.instances.proofs.Fits.{constant-fit, fit-up}
-use Rattle.instances.proofs.Loops.{TripFit, Weights, ofMany, ofOps, wcons, wnil}
+use Rattle.instances.proofs.Loops.{Weights, wcons, wnil}
+use Rattle.instances.proofs.Turns.{TripFit, ofMany, ofOps}
 use Rattle.instances.proofs.Up.{Ready, ofInfo, up-fit, up-is}
 use Rattle.instances.specs.Respects.{Respects, ofCircuit, ofOp, ofOutput}
 use Rattle.sizes.proofs.Bounds.{Bits}
@@ -80,13 +81,13 @@ module _ (ns : List Flat) where
 
 -- THE LAW: an algebra that respects small forms constructs the image of the circuit
 module _ {F : Type 0} (A : Forms F) (of : Form → F) (same : Respects A of) (ns : List Flat) (few : length ns ≤ 128) where
-  abbrev u : Up
+  abbrev pub u : Up
   u = up pairs (inputs ns) (cellsN ns) (cellsNC ns) 0 0 ns
 
-  abbrev d : Down
+  abbrev pub d : Down
   d = down pairs (inputs ns) (cellsN ns) 0 0 (u .infos) (root pairs ∷ []) (u .ops)
 
-  all-ready : Ready (inputs ns) (cellsN ns) (cellsNC ns) 0 0 ns
+  pub all-ready : Ready (inputs ns) (cellsN ns) (cellsNC ns) 0 0 ns
   unfolding build
   all-ready =
       let n0 = inputs ns in
@@ -95,12 +96,15 @@ module _ {F : Type 0} (A : Forms F) (of : Form → F) (same : Respects A of) (ns
       let s = blank-sat ns in
       ready ns 0 0 ns (omega arith) (omega arith) few (back n0 (blank ns) gd (back n0 (blank ns) gf (s .0))) (back n0 (full ns) gd (back n0 (full ns) gf (s .1)))
 
-  root-is : root A ≡ ofEntry A of same (root pairs)
+  pub root-is : root A ≡ ofEntry A of same (root pairs)
   root-is = λ i. record { reached = same .constant-same 1 (omega arith) i; called = same .constant-same 0 (omega arith) i }
 
-  falls : Falls A of same (inputs ns) (cellsN ns) (down A (inputs ns) (cellsN ns) 0 0 (map (ofInfo A of same) (u .infos)) (map (ofEntry A of same) (root pairs ∷ [])) (ofOps A of same (u .ops))) d
+  pub root-fits : All EntryFit (root pairs ∷ [])
+  root-fits = (record { reached = fit-up 1 40000 (constant 1) (constant-fit 1) (omega arith); called = fit-up 0 40002 (constant 0) (constant-fit 0) (omega arith) }, tt)
+
+  pub falls : Falls A of same (inputs ns) (cellsN ns) (down A (inputs ns) (cellsN ns) 0 0 (map (ofInfo A of same) (u .infos)) (map (ofEntry A of same) (root pairs ∷ [])) (ofOps A of same (u .ops))) d
   falls = down-sim A of same (inputs ns) (cellsN ns) 0 0 (u .infos) (root pairs ∷ []) (u .ops) (up-fit A of same (inputs ns) (cellsN ns) (cellsNC ns) 0 0 ns all-ready)
-      (record { reached = fit-up 1 40000 (constant 1) (constant-fit 1) (omega arith); called = fit-up 0 40002 (constant 0) (constant-fit 0) (omega arith) }, tt)
+      root-fits
 
   abbrev ofBuilt : Built Form → Built F
   ofBuilt b = record { pass = ofDown A of same (b .pass); running = ofMany A of same of (b .running) }

@@ -1,5 +1,6 @@
 pub mod Fits
 pub mod Steps
+pub mod Turns
 pub mod Loops
 pub mod Up
 pub mod Down

@@ -10,7 +10,8 @@ use Rattle.construct.specs.Forms.{Forms}
 use Rattle.construct.specs.Lower.{Flat, cellAfter, cursorF, fixed, fixedT, force, forced, invert, inverted, leaf, leafT, lower, ordered, plain, slotAfter, top, up, upStep}
 use Rattle.construct.specs.Pairs.{Form, Info, Kid3, Trip, Up, constant, pairs, plus}
 use Rattle.instances.proofs.Fits.{Fit, constant-fit, fit-up, plus-fit, wire-fit}
-use Rattle.instances.proofs.Loops.{TripFit, Weights, lower-sim, ofKid3, ofOps, ofTrips, wcons, wnil}
+use Rattle.instances.proofs.Loops.{Weights, lower-sim, wcons, wnil}
+use Rattle.instances.proofs.Turns.{TripFit, ofKid3, ofOps, ofTrips}
 use Rattle.instances.proofs.Steps.{plus-sim}
 use Rattle.instances.specs.Respects.{Respects, ofTrip}
 use Rattle.walk.specs.Kind.{bit}
@@ -26,14 +27,14 @@ pub record Stacked (ts : List Trip) : Type 0 where
   pub light : weight + 2 ≤ 32768
   pub fit : Weights TripFit count weight ts
 
-record Taken (k n W : ℕ) (ts : List Trip) : Type 0 where
-  count : ℕ
-  weight : ℕ
-  fewer : count ≤ n
-  lighter : weight ≤ W
-  fit : Weights TripFit count weight (take k ts)
+pub record Taken (k n W : ℕ) (ts : List Trip) : Type 0 where
+  pub count : ℕ
+  pub weight : ℕ
+  pub fewer : count ≤ n
+  pub lighter : weight ≤ W
+  pub fit : Weights TripFit count weight (take k ts)
 
-taken : (k : ℕ) {n W : ℕ} {ts : List Trip} → Weights TripFit n W ts → Taken k n W ts
+pub taken : (k : ℕ) {n W : ℕ} {ts : List Trip} → Weights TripFit n W ts → Taken k n W ts
 taken zero ws = record { count = 0; weight = 0; fewer = omega arith; lighter = omega arith; fit = wnil }
 taken (suc k) wnil = record { count = 0; weight = 0; fewer = omega arith; lighter = omega arith; fit = wnil }
 taken (suc k) (wcons {w = w} h hs) =
@@ -87,7 +88,7 @@ module _ {F : Type 0} (A : Forms F) (of : Form → F) (same : Respects A of) whe
   forced-is true t h = λ i. record { s = plus-sim A of same (t .s) (t .f) (fit-up 32768 4194304 (t .s) (h .s) (omega arith)) (fit-up 32768 4194304 (t .f) (h .f) (omega arith)) i; f = zero-is i; r = of (t .r) }
   forced-is false t h = λ i. record { s = zero-is i; f = plus-sim A of same (t .s) (t .f) (fit-up 32768 4194304 (t .s) (h .s) (omega arith)) (fit-up 32768 4194304 (t .f) (h .f) (omega arith)) i; r = of (t .r) }
 
-  top-is : (ts : List Trip) → top (fixedT A true) (ofTrips A of same ts) ≡ ofTrip of (top (fixedT pairs true) ts)
+  pub top-is : (ts : List Trip) → top (fixedT A true) (ofTrips A of same ts) ≡ ofTrip of (top (fixedT pairs true) ts)
   top-is [] = fixed-is true
   top-is (t ∷ ts) = refl
 
@@ -96,7 +97,7 @@ module _ {F : Type 0} (A : Forms F) (of : Form → F) (same : Respects A of) whe
   drop-is image (suc k) [] = refl
   drop-is image (suc k) (x ∷ xs) = drop-is image k xs
 
-  take-is : {X Y : Type 0} (image : X → Y) (k : ℕ) (xs : List X) → take k (map image xs) ≡ map image (take k xs)
+  pub take-is : {X Y : Type 0} (image : X → Y) (k : ℕ) (xs : List X) → take k (map image xs) ≡ map image (take k xs)
   take-is image zero xs = refl
   take-is image (suc k) [] = refl
   take-is {Y = Y} image (suc k) (x ∷ xs) = ap (λ (l : List Y). image x ∷ l) (take-is image k xs)
@@ -105,11 +106,11 @@ module _ {F : Type 0} (A : Forms F) (of : Form → F) (same : Respects A of) whe
     leaf-is : (s : ℕ) → leafT A n0 nN nC s ≡ ofTrip of (leafT pairs n0 nN nC s)
     leaf-is s = λ i. record { s = same .wire-same (nC + 3 * s) i; f = same .wire-same (nC + 3 * s + 1) i; r = same .wire-same (nC + 3 * s + 2) i }
 
-    cursor-is : (m : Bool) (c : ℕ) → cursorF A n0 nN nC m c ≡ of (cursorF pairs n0 nN nC m c)
+    pub cursor-is : (m : Bool) (c : ℕ) → cursorF A n0 nN nC m c ≡ of (cursorF pairs n0 nN nC m c)
     cursor-is true c = same .wire-same (nN + c)
     cursor-is false c = zero-is
 
-    cursor-fit : (m : Bool) (c : ℕ) → Fit 1 (cursorF pairs n0 nN nC m c)
+    pub cursor-fit : (m : Bool) (c : ℕ) → Fit 1 (cursorF pairs n0 nN nC m c)
     cursor-fit true c = wire-fit (nN + c)
     cursor-fit false c = fit-up 0 1 (constant 0) (constant-fit 0) (omega arith)
 

@@ -1,2 +1,2 @@
-pub mod Arena
+pub mod Uses
 pub mod Cards

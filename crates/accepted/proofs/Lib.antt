@@ -1,0 +1,4 @@
+pub mod Family
+pub mod Shape
+pub mod Places
+pub mod Facts

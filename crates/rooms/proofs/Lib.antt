@@ -1,0 +1,4 @@
+pub mod Arbitration
+pub mod Circuit
+pub mod Enough
+pub mod Counted

@@ -1,0 +1,1 @@
+// How much room building takes in floats, as laws only: see proofs/.

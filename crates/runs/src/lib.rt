@@ -1,0 +1,1 @@
+// Laws only: how work on the table is followed.

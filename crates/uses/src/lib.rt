@@ -1,0 +1,1 @@
+// Definitions only: how much room building takes.
