@@ -1,0 +1,19 @@
+-- A form put into a slot, as a step. Assumes nothing.
+use Prim.Native.Nat.{ℕ, _<_}
+use mathlib.Core.List.{List}
+use Rattle.wire.specs.declared.Form.{Form}
+use Rattle.wire.specs.Terms.{Affine}
+use Rattle.construct.specs.Builder.{Op}
+use Rattle.table.specs.declared.Builder.{Builder}
+use Rattle.table.specs.Work.{Mem, loaded, saved, opsFrom}
+use Rattle.table.specs.Stands.{Stands}
+use Rattle.runs.specs.Runs.{Runs}
+use Rattle.runs.proofs.Runs.{Ready, saved-runs, slot-filled}
+
+pub record Stored (K : ℕ → Type 0) (m : Mem) (b : Builder) (j : ℕ) (f : Form) (x : Affine) (os : List (Op Affine)) : Type 0 where
+  pub runs : Runs K m b (saved m j f) b os 0 0
+  pub slot : Stands (saved m j f) b (loaded (saved m j f) j) x
+
+pub store-runs : {n : ℕ} {K : ℕ → Type 0} {m : Mem} {b : Builder} {os : List (Op Affine)} {f : Form} {x : Affine} → Ready n m b os → (j : ℕ) → j < opsFrom → (K j → ⊥) → Stands m b f x
+    → Stored K m b j f x os
+store-runs {f = f} r j l k h = record { runs = saved-runs r j f l k; slot = slot-filled r j l h }

@@ -1,0 +1,4 @@
+pub mod Forms
+pub mod Counted
+pub mod Written
+pub mod Emitted

@@ -1,0 +1,5 @@
+pub mod Gates
+pub mod Clears
+pub mod Stops
+pub mod Picks
+pub mod Ordered

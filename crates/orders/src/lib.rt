@@ -1,0 +1,1 @@
+// Laws only: what lower_ordered leaves is the construction's.

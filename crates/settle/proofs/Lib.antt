@@ -1,0 +1,3 @@
+pub mod Zero
+pub mod Lists
+pub mod Settled

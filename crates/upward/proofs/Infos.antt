@@ -1,0 +1,48 @@
+-- What arbitrating has kept of nodes lasts where their slots stay. Assumes nothing.
+use Prim.Native.Nat.{ℕ, _+_, _≤_, _<_}
+use native.Mathlib.Omega.{arith}
+use mathlib.Core.List.{List}
+use lib.ListN.{length, length-map}
+use Rattle.wire.specs.Terms.{Affine}
+use Rattle.construct.specs.Lower.{Flat, Trip, Info}
+use Rattle.table.specs.declared.Builder.{Builder}
+use Rattle.table.specs.Work.{Mem}
+use Rattle.stops.specs.Stops.{reachFrom, afterFrom}
+use Rattle.runs.specs.Runs.{Keeps}
+use Rattle.runs.proofs.Runs.{stack-kept}
+use Rattle.arbitrate.specs.Arbitrate.{rawS, rawF, rawR, stackS, stackF, stackR, curFrom}
+use Rattle.passes.specs.Orders.{ss, fs, rs}
+use Rattle.passes.specs.Passes.{rowsIn, InfosAt, TripsAt}
+use Rattle.passes.proofs.Kept as Kept
+
+-- K holds of the slots from lo up to hi
+abbrev pub Over : ℕ → ℕ → (ℕ → Type 0) → Type 0
+Over lo hi K = (k : ℕ) → lo ≤ k → k < hi → K k
+
+-- K holds of the slots of nodes from the i-th on, whose children have the rows below `row`
+pub record Spares (K : ℕ → Type 0) (i row : ℕ) : Type 0 where
+  pub s : Over (rawS + i) 128 K
+  pub f : Over (rawF + i) 256 K
+  pub r : Over (rawR + i) 384 K
+  pub cur : Over (curFrom + i) 1664 K
+  pub reach : Over reachFrom (reachFrom + row) K
+  pub after : Over afterFrom (afterFrom + row) K
+
+module _ {K : ℕ → Type 0} {m : Mem} {b : Builder} {m′ : Mem} {b′ : Builder} (g : Keeps K m b m′ b′) where
+  pub infos-kept : (i : ℕ) (ns : List Flat) (xs : List (Info Affine)) → length ns + i ≤ 128 → rowsIn ns ≤ 128 → Spares K i (rowsIn ns) → InfosAt m b i ns xs → InfosAt m′ b′ i ns xs
+  infos-kept i ns xs l t q h =
+      Kept.infos-kept g i ns xs (omega arith) t
+      (λ j a z. (q .s (rawS + j) (omega arith) (omega arith), q .f (rawF + j) (omega arith) (omega arith), q .r (rawR + j) (omega arith) (omega arith), q .cur (curFrom + j) (omega arith) (omega arith)))
+      (q .reach) (q .after) h
+
+  -- the stack of statuses, of which there are at most 128
+  pub trips-kept : (ts : List (Trip Affine)) → length ts ≤ 128 → Over stackS 768 K → TripsAt m b ts → TripsAt m′ b′ ts
+  trips-kept ts l q h =
+      let cs = length-map ts (λ (z : Trip Affine). z .s) in
+      let cf = length-map ts (λ (z : Trip Affine). z .f) in
+      let cr = length-map ts (λ (z : Trip Affine). z .r) in
+      record {
+        s = stack-kept g stackS (ss ts) (omega arith) (λ k a z. q k a (omega arith)) (h .s);
+        f = stack-kept g stackF (fs ts) (omega arith) (λ k a z. q k (omega arith) (omega arith)) (h .f);
+        r = stack-kept g stackR (rs ts) (omega arith) (λ k a z. q k (omega arith) (omega arith)) (h .r);
+      }

@@ -1,0 +1,10 @@
+pub mod Counts
+pub mod Stack
+pub mod Raw
+pub mod Infos
+pub mod Plain
+pub mod Nodes
+pub mod Lowered
+pub mod Composite
+pub mod Step
+pub mod Arbitrate
