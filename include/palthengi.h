@@ -1,4 +1,4 @@
-/* Palthengi for C: the check of a lent circuit, validation of a value table, and one tick.
+/* Palthengi for C: compiling a tree, the check of a lent circuit, validation of a value table, and one tick.
  *
  * Every slice is a pointer and a length in elements. Slices that a function writes must not overlap each other
  * or any that it reads. The layout of a circuit's four slices stands in docs/STORAGE.md, the refusals in docs/REFUSALS.md.
@@ -27,6 +27,24 @@ typedef struct {
     size_t terms;
 } palthengi_counts;
 
+/* The work room of palthengi_compile, one length each for all trees. */
+#define PALTHENGI_WORK_NUMS 13920
+#define PALTHENGI_WORK_BIASES 6960
+#define PALTHENGI_WORK_TERMS 262144 /* of work_wires and of work_coefs each */
+
+/* Slots that hold the circuit of any tree. */
+#define PALTHENGI_OPS_MOST 2163
+#define PALTHENGI_TERMS_MOST 507904
+
+/* number: 0 where the tree is compiled, else document 01's number; kind: with 4, the kind, else 0;
+ * place: the node with 1 to 7, the node count with 8, else 0; counts: of the circuit that is stored, all 0 where the tree is refused. */
+typedef struct {
+    uint32_t number;
+    uint32_t kind;
+    size_t place;
+    palthengi_counts counts;
+} palthengi_compilation;
+
 /* number: 0 where nothing is refused, else document 01's number.
  * broken: with 18, which invariant: 1 not a bit, 2 not one hot, 3 bad cursor; else 0.
  * place:  the given length with 11, 12 and 13; the slot with 15; the node with 16; the node, or with broken 3 the cursor cell, with 18; else 0.
@@ -37,6 +55,18 @@ typedef struct {
     size_t place;
     float value;
 } palthengi_refusal;
+
+/* Compiles a tree: its records, in pre-order. The circuit's four slices are lent as palthengi_check has them, with as many op and term slots
+ * as there are to give; the work room of the lengths above.
+ * Refusals: 14 first, where the work room, PALTHENGI_NUMS_FIXED or PALTHENGI_BIASES_FIXED is short; then 1 to 8 as the records come
+ * (1 cut short, 2 bad length, 3 no such kind, 4 never lowered, 5 a composite with no child, 6 level 17, 7 node 128, 8 bytes after the tree);
+ * then 9, 10 more ops, or terms, than slots lent.
+ * A refusal leaves all circuit storage zero; an accepted tree leaves unused slots zero. The work room ends zero on every path. */
+palthengi_compilation palthengi_compile(const uint8_t *tree, size_t tree_len,
+                                        uint32_t *nums, size_t nums_len, float *biases, size_t biases_len,
+                                        uint32_t *wires, size_t wires_len, float *coefs, size_t coefs_len,
+                                        size_t *work_nums, size_t work_nums_len, float *work_biases, size_t work_biases_len,
+                                        uint32_t *work_wires, size_t work_wires_len, float *work_coefs, size_t work_coefs_len);
 
 /* 0 where the four slices hold a circuit of these counts, else 17.
  * nums: PALTHENGI_NUMS_FIXED + 5 for each op; biases: PALTHENGI_BIASES_FIXED + 2 for each op; wires and coefs: one for each term. */

@@ -1,5 +1,5 @@
 #!/bin/sh
-# The proved tick, through C, against the Rust circuit (where ../shared lies beside this repository) and against document 01's words
+# The proved compile and tick, through C, against the Rust circuit (where ../shared lies beside this repository) and against document 01's words
 # on random and damaged circuits. Any difference ends it with a non-zero exit.
 set -eu
 cd "$(dirname "$0")/../.."
@@ -7,7 +7,7 @@ if [ ! -e ../shared/docs/src/circuit/src/lower.rs ]; then
     echo "ticktest: no ../shared here, so the tick is not compared with the Rust"
     exit 0
 fi
-rt staticlib tickc >/dev/null
+rt staticlib palthengi >/dev/null
 cd oracle
 cargo build --offline --release --quiet -p ticktest
 run() {
@@ -15,6 +15,7 @@ run() {
     shift
     cargo run --offline --release --quiet -p ticktest --bin "$name" -- "$@"
 }
+run compiles
 run ticks
 run damage
 # A comparison is worth what it finds: each slip in the reading must make it fail.

@@ -6,7 +6,7 @@ pub mod linked;
 pub mod made;
 pub mod storage;
 
-pub use storage::{Counts, Lent, Refusal, Stored};
+pub use storage::{Compilation, Counts, Lent, Refusal, Stored, Work};
 
 /// Equal bits; all NaNs count as one.
 pub fn same(a: f32, b: f32) -> bool {

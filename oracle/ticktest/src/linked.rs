@@ -1,8 +1,28 @@
 //! The proved functions, as include/palthengi.h declares them.
 
-use crate::{Counts, Lent, Refusal, Stored};
+use crate::{Compilation, Counts, Lent, Refusal, Stored, Work};
 
 unsafe extern "C" {
+    fn palthengi_compile(
+        tree: *const u8,
+        tl: usize,
+        nums: *mut u32,
+        nl: usize,
+        biases: *mut f32,
+        bl: usize,
+        wires: *mut u32,
+        wl: usize,
+        coefs: *mut f32,
+        cl: usize,
+        work_nums: *mut usize,
+        wnl: usize,
+        work_biases: *mut f32,
+        wbl: usize,
+        work_wires: *mut u32,
+        wwl: usize,
+        work_coefs: *mut f32,
+        wcl: usize,
+    ) -> Compilation;
     fn palthengi_check(
         c: Counts,
         nums: *const u32,
@@ -120,6 +140,33 @@ pub fn tick(s: &Stored, row: &[u8], l: &mut Lent) -> Refusal {
             l.halts.len(),
             l.edges.as_mut_ptr(),
             l.edges.len(),
+        )
+    }
+}
+
+/// Compiles a tree into the storage lent; the counts of what is stored are in the answer.
+pub fn compile(tree: &[u8], s: &mut Stored, w: &mut Work) -> Compilation {
+    // SAFETY: as above.
+    unsafe {
+        palthengi_compile(
+            tree.as_ptr(),
+            tree.len(),
+            s.nums.as_mut_ptr(),
+            s.nums.len(),
+            s.biases.as_mut_ptr(),
+            s.biases.len(),
+            s.wires.as_mut_ptr(),
+            s.wires.len(),
+            s.coefs.as_mut_ptr(),
+            s.coefs.len(),
+            w.nums.as_mut_ptr(),
+            w.nums.len(),
+            w.biases.as_mut_ptr(),
+            w.biases.len(),
+            w.wires.as_mut_ptr(),
+            w.wires.len(),
+            w.coefs.as_mut_ptr(),
+            w.coefs.len(),
         )
     }
 }

@@ -57,6 +57,62 @@ impl Refusal {
     }
 }
 
+/// What compiling answers.
+#[repr(C)]
+#[derive(Clone, Copy, Debug, PartialEq)]
+pub struct Compilation {
+    pub number: u32,
+    pub kind: u32,
+    pub place: usize,
+    pub counts: Counts,
+}
+
+impl Counts {
+    pub const NONE: Self = Self {
+        nodes: 0,
+        cursors: 0,
+        leaves: 0,
+        cells: 0,
+        ops: 0,
+        terms: 0,
+    };
+}
+
+/// The work room of compile, of the lengths in docs/STORAGE.md.
+#[derive(Clone, Debug)]
+pub struct Work {
+    pub nums: Vec<usize>,
+    pub biases: Vec<f32>,
+    pub wires: Vec<u32>,
+    pub coefs: Vec<f32>,
+}
+
+impl Work {
+    pub fn new() -> Self {
+        Self {
+            nums: vec![0; 13_920],
+            biases: vec![0.0; 6_960],
+            wires: vec![0; 262_144],
+            coefs: vec![0.0; 262_144],
+        }
+    }
+
+    /// Whether all of it is zero, bit by bit.
+    pub fn is_zero(&self) -> bool {
+        let zero = |x: &f32| x.to_bits() == 0;
+        self.nums.iter().all(|x| *x == 0)
+            && self.biases.iter().all(zero)
+            && self.wires.iter().all(|x| *x == 0)
+            && self.coefs.iter().all(zero)
+    }
+}
+
+impl Default for Work {
+    fn default() -> Self {
+        Self::new()
+    }
+}
+
 #[derive(Clone, Debug)]
 pub struct Stored {
     pub counts: Counts,
@@ -93,6 +149,40 @@ impl PartialEq for Lent {
 }
 
 impl Stored {
+    /// Storage with so many op and term slots, all of it set.
+    pub fn dirty(ops: usize, terms: usize) -> Self {
+        Self {
+            counts: Counts::NONE,
+            nums: vec![7; OPS + 5 * ops],
+            biases: vec![7.0; BIASES + 2 * ops],
+            wires: vec![7; terms],
+            coefs: vec![7.0; terms],
+        }
+    }
+
+    /// Whether all four slices are zero, bit by bit.
+    pub fn is_zero(&self) -> bool {
+        let zero = |x: &f32| x.to_bits() == 0;
+        self.nums.iter().all(|x| *x == 0)
+            && self.biases.iter().all(zero)
+            && self.wires.iter().all(|x| *x == 0)
+            && self.coefs.iter().all(zero)
+    }
+
+    /// The same circuit in slices that may be longer, past which all is zero; zeros of either sign are equal.
+    pub fn holds(&self, other: &Self) -> bool {
+        fn begins<T: Copy + PartialEq>(long: &[T], short: &[T], zero: T) -> bool {
+            long.len() >= short.len()
+                && long[..short.len()] == *short
+                && long[short.len()..].iter().all(|x| *x == zero)
+        }
+        self.counts == other.counts
+            && begins(&self.nums, &other.nums, 0)
+            && begins(&self.biases, &other.biases, 0.0)
+            && begins(&self.wires, &other.wires, 0)
+            && begins(&self.coefs, &other.coefs, 0.0)
+    }
+
     pub fn empty(counts: Counts) -> Self {
         Self {
             counts,

@@ -1,9 +1,9 @@
--- `tickc::of_validated` meets its contract. Assumes nothing.
+-- `palthengi::of_validated` meets its contract. Assumes nothing.
 use mathlib.Core.Path.{sym, ap}
 use borrow.Author.Needs.{needs}
-use Rattle.tickc.specs.Refusal.{ofValidated}
-use Rattle.tickc.proofs.of_validated.Statement.{statement}
-use Rattle.tickc.proofs.of_validated.Tie as tie
+use Rattle.palthengi.specs.Refusal.{ofValidated}
+use Rattle.palthengi.proofs.of_validated.Statement.{statement}
+use Rattle.palthengi.proofs.of_validated.Tie as tie
 
 enum-told : tie.Need-enum-told
 enum-told c = search needs

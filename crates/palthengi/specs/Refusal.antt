@@ -7,7 +7,7 @@ use Rattle.verdict.specs.Refusal as validated
 use Rattle.lane.specs.declared.Ticked.{Ticked}
 use Rattle.lane.specs.declared.Ticked.the-variants as is
 use Rattle.lane.specs.Lane.{numberOf, placeOf, Lent, Outcome}
-use Rattle.tickc.specs.declared.Refusal.{Refusal}
+use Rattle.palthengi.specs.declared.Refusal.{Refusal}
 
 -- 17 where it is no circuit, else 0
 abbrev pub checkNumber : Bool → ℕ

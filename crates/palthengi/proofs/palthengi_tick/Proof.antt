@@ -1,8 +1,8 @@
--- `tickc::palthengi_tick` meets its contract. Assumes nothing.
+-- `palthengi::palthengi_tick` meets its contract. Assumes nothing.
 use borrow.Author.Needs.{needs}
-use Rattle.tickc.proofs.Told.{told-is}
-use Rattle.tickc.proofs.palthengi_tick.Statement.{statement}
-use Rattle.tickc.proofs.palthengi_tick.Tie as tie
+use Rattle.palthengi.proofs.Told.{told-is}
+use Rattle.palthengi.proofs.palthengi_tick.Statement.{statement}
+use Rattle.palthengi.proofs.palthengi_tick.Tie as tie
 
 tick-requires : tie.Need-tick-requires
 tick-requires c κs = search needs

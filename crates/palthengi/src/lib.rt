@@ -1,16 +1,22 @@
-// The check for 17, validation and the tick for callers in C: numbers and slices in, a number or a struct out. include/palthengi.h declares them.
+// Compile, the check for 17, validation and the tick for callers in C: numbers and slices in, a number or a struct out. include/palthengi.h declares them.
+use compiled::Compiled;
 use index::CursorCell;
 use index::NodeIndex;
 use lane::Ticked;
 use verdict::Validated;
 use wire::Counts;
 ghost use mathlib.Core.Path.{_≡_};
+ghost use lib.ListN.{length};
 ghost use Rattle.exact.specs.Whole.{zero32};
 ghost use Rattle.circuit.specs.Check.{stored, circuitOk};
 ghost use Rattle.validate.specs.Validate.{validateOf};
 ghost use Rattle.lane.specs.Lane.{lent};
 ghost use Rattle.tick.specs.Tick.{tickOf};
-ghost use Rattle.tickc.specs.Refusal.{checkNumber, ofValidated, ofTicked, told, tell};
+ghost use Rattle.palthengi.specs.Refusal.{checkNumber, ofValidated, ofTicked, told, tell};
+ghost use Rattle.compiled.specs.declared.Compiled as answers;
+ghost use Rattle.compiled.specs.Compile as compile;
+ghost use Rattle.settle.specs.Settle.{zeros, zeros32};
+ghost use Rattle.palthengi.specs.Compilation.{ofCompiled, made, tellMade};
 
 // Document 01's number, 0 where nothing is refused; of a broken invariant the case, 1 not a bit, 2 not one hot, 3 bad cursor; the place; the offending float.
 #[repr(C)]
@@ -163,5 +169,80 @@ pub extern "C" fn palthengi_tick(
         statuses,
         halts,
         edges,
+    ))
+}
+
+// ---- compile
+
+// Document 01's number, 0 where the tree is compiled; the kind that 4 carries; the place; the counts of the circuit, all 0 where it is refused.
+#[repr(C)]
+pub struct Compilation {
+    pub number: u32,
+    pub kind: u32,
+    pub place: usize,
+    pub counts: Counts,
+}
+
+fn of_compiled(answer: Compiled) -> Compilation
+    ensures { λ r. ⌜ r ≡ ofCompiled answer ⌝ }
+{
+    match answer {
+        Compiled::Accepted(counts) => Compilation {
+            number: 0,
+            kind: 0,
+            place: 0,
+            counts: counts,
+        },
+        Compiled::Refused(refusal) => refused(refusal),
+    }
+}
+
+fn refused(refusal: tree::Refusal) -> Compilation
+    ensures { λ r. ⌜ r ≡ ofCompiled (answers.Compiled.Refused refusal) ⌝ }
+{
+    let cause = refusal.cause;
+    let none = Counts {
+        nodes: 0,
+        cursors: 0,
+        leaves: 0,
+        cells: 0,
+        ops: 0,
+        terms: 0,
+    };
+    Compilation {
+        number: cause.number() as u32,
+        kind: cause.kind() as u32,
+        place: refusal.place,
+        counts: none,
+    }
+}
+
+#[no_mangle]
+pub extern "C" fn palthengi_compile(
+    tree: &[u8],
+    nums: &mut [u32],
+    biases: &mut [f32],
+    wires: &mut [u32],
+    coefs: &mut [f32],
+    worknums: &mut [usize],
+    workbiases: &mut [f32],
+    workwires: &mut [u32],
+    workcoefs: &mut [f32],
+) -> Compilation
+    ensures { λ r. ⌜ made r (now (nums .exit)) (now (biases .exit)) (now (wires .exit)) (now (coefs .exit))
+        ≡ tellMade (compile.compileOf (compile.lent (length (now (nums .entry))) (length (now (biases .entry))) (length (now (wires .entry))) (length (now (coefs .entry))) (length (now (worknums .entry))) (length (now (workbiases .entry))) (length (now (workwires .entry))) (length (now (workcoefs .entry)))) (now (tree .entry))) ⌝ }
+    ensures { λ _. ⌜ (now (worknums .exit) ≡ zeros (now (worknums .entry))) × (now (workbiases .exit) ≡ zeros32 (now (workbiases .entry)))
+        × (now (workwires .exit) ≡ zeros (now (workwires .entry))) × (now (workcoefs .exit) ≡ zeros32 (now (workcoefs .entry))) ⌝ }
+{
+    of_compiled(lower::compile(
+        tree,
+        nums,
+        biases,
+        wires,
+        coefs,
+        worknums,
+        workbiases,
+        workwires,
+        workcoefs,
     ))
 }

@@ -1,9 +1,9 @@
--- `tickc::broken` meets its contract. Assumes nothing.
+-- `palthengi::broken` meets its contract. Assumes nothing.
 use mathlib.Core.Path.{ap}
 use borrow.Author.Needs.{needs}
-use Rattle.tickc.specs.declared.Refusal.{Refusal}
-use Rattle.tickc.proofs.broken.Statement.{statement}
-use Rattle.tickc.proofs.broken.Tie as tie
+use Rattle.palthengi.specs.declared.Refusal.{Refusal}
+use Rattle.palthengi.proofs.broken.Statement.{statement}
+use Rattle.palthengi.proofs.broken.Tie as tie
 
 of-validated-requires : tie.Need-of-validated-requires
 of-validated-requires c κs = search needs

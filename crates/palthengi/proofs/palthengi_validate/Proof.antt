@@ -1,9 +1,9 @@
--- `tickc::palthengi_validate` meets its contract. Assumes nothing.
+-- `palthengi::palthengi_validate` meets its contract. Assumes nothing.
 use mathlib.Core.Path.{ap, _∙_}
 use borrow.Author.Needs.{needs}
-use Rattle.tickc.specs.Refusal.{ofValidated}
-use Rattle.tickc.proofs.palthengi_validate.Statement.{statement}
-use Rattle.tickc.proofs.palthengi_validate.Tie as tie
+use Rattle.palthengi.specs.Refusal.{ofValidated}
+use Rattle.palthengi.proofs.palthengi_validate.Statement.{statement}
+use Rattle.palthengi.proofs.palthengi_validate.Tie as tie
 
 validate-requires : tie.Need-validate-requires
 validate-requires c κs = search needs

@@ -7,8 +7,10 @@ use Rattle.circuit.specs.Check.{Stored, circuitOk}
 use Rattle.validate.specs.Validate.{validateOf}
 use Rattle.lane.specs.Lane.{Lent}
 use Rattle.tick.specs.Tick.{tickOf}
-use Rattle.tickc.specs.declared.Refusal.{Refusal}
-use Rattle.tickc.specs.Refusal.{checkNumber, ofValidated, Told, told, tell}
+use Rattle.compiled.specs.Compile as compile
+use Rattle.palthengi.specs.declared.Refusal.{Refusal}
+use Rattle.palthengi.specs.Compilation.{Made, tellMade}
+use Rattle.palthengi.specs.Refusal.{checkNumber, ofValidated, Told, told, tell}
 
 -- palthengi_check
 pub one-number : (s : Stored) (r r′ : ℕ) → r ≡ checkNumber (circuitOk s) → r′ ≡ checkNumber (circuitOk s) → r ≡ r′
@@ -23,3 +25,7 @@ pub one-told : (s : Stored) (row : List ℕ) (l : Lent) (r r′ : Refusal) (left
 one-told s row l r r′ left left′ e e′ =
     let same = e ∙ sym e′ in
     (ap (λ (o : Told). o .answer) same, ap (λ (o : Told). o .left) same)
+
+-- palthengi_compile
+pub one-made : (l : compile.Lent) (bytes : List ℕ) (m m′ : Made) → m ≡ tellMade (compile.compileOf l bytes) → m′ ≡ tellMade (compile.compileOf l bytes) → m ≡ m′
+one-made l bytes m m′ e e′ = e ∙ sym e′

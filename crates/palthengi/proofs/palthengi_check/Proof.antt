@@ -1,9 +1,9 @@
--- `tickc::palthengi_check` meets its contract. Assumes nothing.
+-- `palthengi::palthengi_check` meets its contract. Assumes nothing.
 use mathlib.Core.Path.{sym, ap, _∙_}
 use borrow.Author.Needs.{needs}
-use Rattle.tickc.specs.Refusal.{checkNumber}
-use Rattle.tickc.proofs.palthengi_check.Statement.{statement}
-use Rattle.tickc.proofs.palthengi_check.Tie as tie
+use Rattle.palthengi.specs.Refusal.{checkNumber}
+use Rattle.palthengi.proofs.palthengi_check.Statement.{statement}
+use Rattle.palthengi.proofs.palthengi_check.Tie as tie
 
 is-circuit-requires : tie.Need-is-circuit-requires
 is-circuit-requires c κs = search needs

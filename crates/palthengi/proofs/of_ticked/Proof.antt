@@ -1,9 +1,9 @@
--- `tickc::of_ticked` meets its contract. Assumes nothing.
+-- `palthengi::of_ticked` meets its contract. Assumes nothing.
 use mathlib.Core.Path.{sym, ap, _∙_}
 use borrow.Author.Needs.{needs}
-use Rattle.tickc.specs.Refusal.{ofTicked}
-use Rattle.tickc.proofs.of_ticked.Statement.{statement}
-use Rattle.tickc.proofs.of_ticked.Tie as tie
+use Rattle.palthengi.specs.Refusal.{ofTicked}
+use Rattle.palthengi.proofs.of_ticked.Statement.{statement}
+use Rattle.palthengi.proofs.of_ticked.Tie as tie
 
 enum-told : tie.Need-enum-told
 enum-told c = search needs
