@@ -93,7 +93,7 @@ module _ (table : List ℕ) (ρ : ℕ → ℕ) (part : (w : ℕ) → w < length 
 
 -- ---- the whole table
 
-stays : (ins : List ℕ) (os : List Op) (w : ℕ) → w < length ins → cell (tableOf ins os) w ≡ cell ins w
+pub stays : (ins : List ℕ) (os : List Op) (w : ℕ) → w < length ins → cell (tableOf ins os) w ≡ cell ins w
 unfolding tableOf
 stays ins [] w l = refl
 stays ins (o ∷ os) w l =

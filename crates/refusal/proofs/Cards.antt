@@ -6,7 +6,8 @@ use Prim.Native.String.{String}
 use Rattle.kinds.specs.Kinds.{ascii, rows, rowOf}
 use Rattle.tree.specs.declared.refusal.Cause.the-variants.{Truncated, Unsupported, TooManyNodes, ShortRoom}
 use Rattle.tree.specs.declared.refusal.Refusal.{Refusal}
-use Rattle.refusal.specs.Line.{decimalIn, decimal, heading, lineOf}
+use Rattle.text.specs.Text.{decimalIn, decimal}
+use Rattle.refusal.specs.Line.{heading, lineOf}
 
 pub record Card : Type 0 where
   pub refusal : Refusal

@@ -1,4 +1,2 @@
 pub mod Cards
-pub mod Decimals
-pub mod Parts
 pub mod Sentences

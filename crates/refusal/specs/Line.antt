@@ -1,26 +1,15 @@
 -- A refusal as a line of text: `refused 4 at 0: Sleep is never lowered`.
-use Prim.Native.Nat.{ℕ, zero, suc, _+_, _-_, _/_, _%_}
+use Prim.Native.Nat.{ℕ, suc, _-_}
 use Prim.Native.String.{String}
-use mathlib.Core.Path.{_≡_}
-use mathlib.Core.Bool.{true, false, cond}
-use mathlib.Core.List.{List, [], _∷_, _++_}
-use lib.Dec.{leb, ltb}
-use lib.ListN.{length, take, drop, replicate}
+use mathlib.Core.List.{List, _++_}
+use lib.ListN.{length, take, replicate}
 use Rattle.kinds.specs.Kinds.{ascii, rowOf}
+use Rattle.text.specs.Text.{decimal}
 use Rattle.tree.specs.declared.refusal.Cause.{Cause}
 use Rattle.tree.specs.declared.refusal.Cause.the-variants.{Truncated, BadLength, BadKind, Unsupported, EmptyComposite, TooDeep, TooManyNodes, Trailing, NoOpRoom, NoTermRoom, ShortRoom}
 use Rattle.tree.specs.declared.refusal.Refusal.{Refusal}
 use Rattle.tree.specs.Refusal.{numberOf, kindOf}
 use Rattle.refusal.specs.declared.Words.{Words}
-
--- a number's decimal digits; 20 of them hold every number below 2^64
-unfoldable pub decimalIn : ℕ → ℕ → List ℕ
-decimalIn zero n = []
-decimalIn (suc digits) n =
-    elim (ltb n 10) [ true ↦ (48 + n) ∷ [] | false ↦ decimalIn digits (n / 10) ++ (48 + n % 10) ∷ [] ]
-
-unfoldable pub decimal : ℕ → List ℕ
-decimal n = decimalIn 20 n
 
 -- the words for each cause
 abbrev pub sentence : Cause → String
@@ -48,19 +37,9 @@ unfoldable pub lineOf : Refusal → List ℕ
 lineOf refusal =
     heading (numberOf (refusal .cause)) (refusal .place) ++ nameOf (kindOf (refusal .cause)) ++ ascii (sentence (refusal .cause))
 
--- the line at the front of a buffer that has room for it; one that has not stays as it was
-abbrev pub placed : List ℕ → List ℕ → List ℕ
-placed line buffer = cond (leb (length line) (length buffer)) (line ++ drop (length line) buffer) buffer
-
 -- the words in 29 bytes
 abbrev pub wordsOf : Cause → Words
 wordsOf cause = record {
   text = ascii (sentence cause) ++ replicate (29 - length (ascii (sentence cause))) 0;
   chars = length (ascii (sentence cause));
 }
-
--- what `append` leaves: the part after what stood before the position, and the rest of the line as it was
-pub record Appended (before : List ℕ) (at : ℕ) (part after : List ℕ) (end : ℕ) : Type 0 where
-  pub next : end ≡ at + length part
-  pub text : take end after ≡ take at before ++ part
-  pub rest : drop end after ≡ drop end before

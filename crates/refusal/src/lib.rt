@@ -1,12 +1,16 @@
 // Refusals as text: a line such as `refused 4 at 0: Sleep is never lowered`, written into a lent buffer.
 use kinds::row_of;
+use text::append;
+use text::append_decimal;
+use text::put_line;
 use tree::Cause;
 use tree::Refusal;
 ghost use mathlib.Core.Path.{_≡_};
 ghost use Prim.Native.Nat.{_+_, _≤_};
 ghost use mathlib.Core.List.{_++_};
 ghost use lib.ListN.{length, take};
-ghost use Rattle.refusal.specs.Line.{decimal, heading, nameOf, lineOf, placed, wordsOf, Appended};
+ghost use Rattle.text.specs.Text.{placed};
+ghost use Rattle.refusal.specs.Line.{heading, nameOf, lineOf, wordsOf};
 
 // What is said of a cause, in the first `chars` bytes of `text`.
 struct Words {
@@ -22,16 +26,13 @@ pub fn write_refusal(refusal: Refusal, buffer: &mut [u8]) -> usize
 {
     let mut line = [0u8; 128];
     let length = spell(&mut line, refusal);
-    if length <= buffer.len() {
-        append(buffer, 0, &line[..length]);
-    }
-    length
+    put_line(buffer, &line[..length])
 }
 
 // The whole line, at the front.
 fn spell(line: &mut [u8], refusal: Refusal) -> usize
     requires { ⌜ 106 ≤ length (now line) ⌝ }
-    ensures { λ r. ⌜ (take r (now (line .exit)) ≡ lineOf refusal) × (r ≡ length (lineOf refusal)) × (r ≤ 106) ⌝ }
+    ensures { λ r. ⌜ (take r (now (line .exit)) ≡ lineOf refusal) × (r ≤ 106) ⌝ }
 {
     let cause = refusal.cause;
     let place = refusal.place;
@@ -64,28 +65,6 @@ fn write_name(line: &mut [u8], at: usize, kind: u8) -> usize
     let name = row.name;
     let chars = row.chars as usize;
     append(line, at, &name[..chars])
-}
-
-fn append_decimal(line: &mut [u8], at: usize, number: u64) -> usize
-    requires { ⌜ at + 20 ≤ length (now line) ⌝ }
-    ensures { λ r. ⌜ (take r (now (line .exit)) ≡ take at (now (line .entry)) ++ decimal number) × (r ≤ at + 20) ⌝ }
-{
-    let mut digits = [0u8; 20];
-    let count = io::decimal(number, &mut digits);
-    append(line, at, &digits[..count])
-}
-
-// Puts a part into a line at a position, and answers the position after it.
-fn append(line: &mut [u8], at: usize, part: &[u8]) -> usize
-    requires { ⌜ at + length (now part) ≤ length (now line) ⌝ }
-    ensures { λ r. ⌜ Appended (now (line .entry)) at (now (part .entry)) (now (line .exit)) r ⌝ }
-{
-    let mut i: usize = 0;
-    while i < part.len() {
-        line[at + i] = part[i];
-        i += 1;
-    }
-    at + i
 }
 
 fn words_of(cause: Cause) -> Words

@@ -69,7 +69,7 @@ returns c =
     let named = n .0 ∙ (λ i. headed i ++ nameOf (c .before .before .before .before .before .before .before .before .kind .ensures i)) in
     let first = a .text ∙ (λ i. named i ++ f .2 i) in
     let short : c .before .before .append .result ≤ 106 = omega (arith, a .next, length-take-le (words .chars) (words .text) (omega arith), n .1, h .1) in
-    (first, sym (length-take-le _ _ (omega arith)) ∙ ap length first, short)
+    (first, short)
 
 pub spell-spec : {M : Type 1} → statement M
 spell-spec =

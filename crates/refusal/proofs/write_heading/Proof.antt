@@ -5,7 +5,8 @@ use mathlib.Core.List.{List, _++_}
 use Prim.Native.Nat.{ℕ}
 use native.Mathlib.Omega.{arith}
 use Rattle.kinds.specs.Kinds.{ascii}
-use Rattle.refusal.specs.Line.{decimal, heading}
+use Rattle.text.specs.Text.{decimal}
+use Rattle.refusal.specs.Line.{heading}
 use borrow.Author.Needs.{needs}
 use Rattle.refusal.proofs.write_heading.Statement.{statement}
 use Rattle.refusal.proofs.write_heading.Tie as tie

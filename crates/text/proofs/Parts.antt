@@ -8,7 +8,7 @@ use native.Mathlib.Omega.{arith}
 use borrow.Author.Tests.{le-leb, lt-leb}
 use lib.ListN.{length, drop, getD, set, take-append-drop}
 use lib.Seq.{paste, paste-zero, paste-suc, length-paste, take-paste, drop-paste, take-length}
-use Rattle.refusal.specs.Line.{Appended, placed}
+use Rattle.text.specs.Text.{Appended, placed}
 
 -- the first i bytes of the part are copied
 pub record Pasted (entry : List ℕ) (at : ℕ) (part now : List ℕ) (i : ℕ) : Type 0 where

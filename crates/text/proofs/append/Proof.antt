@@ -1,12 +1,12 @@
--- `refusal::append` meets its contract: after i turns the first i bytes of the part are in the line.
+-- `text::append` meets its contract: after i turns the first i bytes of the part are in the line.
 -- Assumes nothing.
 use Prim.Native.Nat.{_-_}
 use lib.ListN.{length}
 use native.Mathlib.Omega.{arith}
 use borrow.Author.Needs.{needs}
-use Rattle.refusal.proofs.Parts.{Pasted, pasted-none, pasted-more, pasted-length, appended}
-use Rattle.refusal.proofs.append.Statement.{statement}
-use Rattle.refusal.proofs.append.Tie as tie
+use Rattle.text.proofs.Parts.{Pasted, pasted-none, pasted-more, pasted-length, appended}
+use Rattle.text.proofs.append.Statement.{statement}
+use Rattle.text.proofs.append.Tie as tie
 
 abbrev Inv-loop : tie.InvT-loop
 Inv-loop line₀ at part i₀ line i = Pasted line₀ at part line i

@@ -1,4 +1,4 @@
--- `refusal::append_decimal` meets its contract: the digits that `io::decimal` writes are the number's, at most 20.
+-- `text::append_decimal` meets its contract: the digits that `io::decimal` writes are the number's, at most 20.
 -- Assumes nothing.
 use denote.Ref.{now}
 use mathlib.Core.Path.{_∙_, ap}
@@ -6,10 +6,10 @@ use mathlib.Core.List.{List, _++_}
 use Prim.Native.Nat.{ℕ}
 use native.Mathlib.Omega.{arith}
 use lib.ListN.{take}
-use Rattle.refusal.proofs.Decimals.{decimal-is, few-digits}
+use Rattle.text.proofs.Decimals.{decimal-is, few-digits}
 use borrow.Author.Needs.{needs}
-use Rattle.refusal.proofs.append_decimal.Statement.{statement}
-use Rattle.refusal.proofs.append_decimal.Tie as tie
+use Rattle.text.proofs.append_decimal.Statement.{statement}
+use Rattle.text.proofs.append_decimal.Tie as tie
 
 decimal-requires : tie.Need-decimal-requires
 decimal-requires c κs = search needs

@@ -9,7 +9,7 @@ use native.Mathlib.Nat.{pow-suc, one-le-pow, pow-le-pow-right}
 use native.Mathlib.Omega.{arith}
 use borrow.Author.Tests.{lt-ltb, le-ltb, ltb-true, ltb-false}
 use Rattle.io.specs.Digits.{digits, glyph, Fewest}
-use Rattle.refusal.specs.Line.{decimalIn, decimal}
+use Rattle.text.specs.Text.{decimalIn, decimal}
 
 glyph-digit : (d : ℕ) → d < 10 → glyph d ≡ 48 + d
 glyph-digit d h = rw (lt-ltb d 10 h)

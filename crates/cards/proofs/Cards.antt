@@ -1,0 +1,223 @@
+-- Every row of the table of bench cards holds, whatever room is lent, if it is enough. The layers' own tables are computed in tree/proofs/Cards
+-- (refusals, and the cards on limits), construct/specs/Cards (ops) and walk/specs/Cards (ticks). Assumes nothing.
+use Prim.Native.Nat.{ℕ, _+_, _*_, _≤_}
+use native.Mathlib.Omega.{arith}
+use mathlib.Core.Path.{_≡_, refl, sym, _∙_, ap, subst}
+use mathlib.Core.Bool.{Bool, true, cond, _&&_}
+use mathlib.Core.List.{List, [], _∷_, _++_, map}
+use borrow.Author.Tests.{leb-true}
+use lib.Dec.{leb}
+use lib.ListN.{length, getD, take, drop}
+use Rattle.kinds.specs.Kinds.{rows, rowOf}
+use Rattle.tree.specs.Forest.{Forest, none, node, preorder, counts, size}
+use Rattle.tree.specs.Bytes.{Within, bytesOf}
+use Rattle.tree.specs.Record.{recordAt}
+use Rattle.tree.specs.Tree.{refusedAt, parse, treeOf}
+use Rattle.tree.specs.Refusal.{numberOf, kindOf}
+use Rattle.tree.specs.declared.refusal.Cause.{Cause}
+use Rattle.tree.specs.declared.refusal.Cause.the-variants as cause
+use Rattle.plan.specs.Plan.{leavesOf, cursorsOf}
+use Rattle.wire.specs.declared.Counts.{Counts}
+use Rattle.wire.specs.Storage.{opsFrom, opBiasesFrom}
+use Rattle.wire.proofs.Tests.{both-left, both-right}
+use Rattle.walk.specs.Lists.{All}
+use Rattle.walk.specs.Walk.{Answer, cellsIn, slotsIn, walk}
+use Rattle.walk.specs.Cards as walks
+use Rattle.construct.specs.Circuit.{flats, construct, opCount}
+use Rattle.construct.specs.Pairs.{pairs}
+use Rattle.construct.specs.Cards as construction
+use Rattle.meaning.proofs.Sizes.{sizes}
+use Rattle.floats.specs.Floats.{floats}
+use Rattle.faithful.specs.Float.{float}
+use Rattle.faithful.proofs.Same.{faithful}
+use Rattle.rooms.proofs.Counted.{op-count}
+use Rattle.lane.specs.Lane.{Lent}
+use Rattle.compiled.specs.Compile as compile
+use Rattle.compiles.specs.Compiles.{treeCircuit}
+use Rattle.compiles.proofs.Nodes.{nodes-length, leaves-count}
+use Rattle.demands.specs.Demands.{Compiles, ValidRow, Ready, over, walked}
+use Rattle.demands.proofs.Demand2.{demand-2}
+use Rattle.demands.proofs.Trees.{compiles-all}
+use Rattle.cards.specs.Cards.{refused, accepted, Tick, Row, leaf, composite, table, Enough, told, Holds}
+
+-- ---- the trees
+
+abbrev oneLeaf : Forest ℕ
+oneLeaf = node 1 none none
+
+abbrev twoReactive : Forest ℕ
+twoReactive = node 5 (node 1 none (node 1 none none)) none
+
+leaf-within : Within oneLeaf
+unfolding rowOf rows
+leaf-within = record { one = refl; lowered = (refl, tt, tt); few = omega arith; shallow = omega arith }
+
+sequence-within : Within walks.sequence
+unfolding rowOf rows
+sequence-within = record { one = refl; lowered = (omega arith, (refl, tt, (refl, tt, tt)), tt); few = omega arith; shallow = omega arith }
+
+reactive-within : Within twoReactive
+unfolding rowOf rows
+reactive-within = record { one = refl; lowered = (omega arith, (refl, tt, (refl, tt, tt)), tt); few = omega arith; shallow = omega arith }
+
+below-within : Within walks.reactive
+unfolding rowOf rows
+below-within = record { one = refl; lowered = (omega arith, (refl, tt, (omega arith, (refl, tt, tt), tt)), tt); few = omega arith; shallow = omega arith }
+
+-- ---- the layers' cards
+
+abbrev cardAt : List construction.Card → ℕ → construction.Card
+cardAt cs k = getD cs k (record { kinds = []; counts = []; cells = 0; ops = 0; terms = 0 })
+
+ops-at : (k : ℕ) → cardAt (map construction.counted construction.cards) k .ops ≡ cardAt construction.cards k .ops
+ops-at k = ap (λ (cs : List construction.Card). cardAt cs k .ops) construction.cards-hold
+
+abbrev answerAt : List Answer → ℕ → Answer
+answerAt xs k = getD xs k (record { statuses = []; halts = []; flags = []; cursors = []; edges = [] })
+
+walk-at : (k : ℕ) → answerAt (walks.answered walks.cards) k ≡ answerAt (map (λ (c : walks.Card). c .answer) walks.cards) k
+walk-at k = ap (λ (xs : List Answer). answerAt xs k) walks.cards-hold
+
+-- ops are counted in the construction with whole coefficients
+card-ops : (c : construction.Card) → construction.counted c .ops ≡ opCount (construct pairs (flats (c .kinds) (c .counts)))
+unfolding construction.counted
+card-ops c = refl
+
+-- ---- state and row of a card: of the right shape and range
+
+abbrev atMost : ℕ → List ℕ → Bool
+atMost most [] = true
+atMost most (x ∷ xs) = leb x most && atMost most xs
+
+low : (most : ℕ) (xs : List ℕ) → atMost most xs ≡ true → All (λ (x : ℕ). x ≤ most) xs
+low most [] e = tt
+low most (x ∷ xs) e = (leb-true x most (both-left (leb x most) (atMost most xs) e), low most xs (both-right (leb x most) (atMost most xs) e))
+
+record Shaped (c : walks.Card) : Type 0 where
+  valid : ValidRow (c .tree) (c .row)
+  flags-long : length (c .flags) ≡ size (c .tree)
+  flags-low : All (λ (flag : ℕ). flag ≤ 1) (c .flags)
+  cursors-long : length (c .cursors) ≡ cellsIn (c .tree)
+
+shaped : (c : walks.Card) → length (c .row) ≡ slotsIn (c .tree) → length (c .flags) ≡ size (c .tree) → length (c .cursors) ≡ cellsIn (c .tree)
+    → atMost 2 (c .row) && atMost 1 (c .flags) ≡ true → Shaped c
+shaped c rows flags cursors e =
+    record {
+      valid = record { long = rows; low = low 2 (c .row) (both-left (atMost 2 (c .row)) (atMost 1 (c .flags)) e) };
+      flags-long = flags;
+      flags-low = low 1 (c .flags) (both-right (atMost 2 (c .row)) (atMost 1 (c .flags)) e);
+      cursors-long = cursors;
+    }
+
+abbrev tickIn : walks.Card → Tick
+tickIn c =
+    record {
+      flags = c .flags;
+      cursors = c .cursors;
+      leaves = c .row;
+      statuses = c .answer .statuses;
+      halts = c .answer .halts;
+      nextFlags = c .answer .flags;
+      nextCursors = c .answer .cursors;
+    }
+
+abbrev madeOf : Forest ℕ → Counts
+madeOf f = compile.countsOf (preorder f) (treeCircuit f)
+
+module _ (l : compile.Lent) (enough : Enough l) where
+  refuses : (bytes : List ℕ) (why : Cause) (place : ℕ) → treeOf bytes ≡ refusedAt why place → Holds l (Row.compiles bytes (refused (numberOf why) place (kindOf why)))
+  unfolding compile.compileOf compile.compileTree
+  refuses bytes why place e = λ i. told (cond (enough .fixed i) (compile.compileTree l (e i)) (compile.refusal l cause.ShortRoom 0) .answer)
+
+  all : (f : Forest ℕ) → Within f → Compiles l f (madeOf f)
+  all f w = compiles-all f w l (enough .fixed) (enough .ops) (enough .terms)
+
+  -- a card of the construction
+  makes : (f : Forest ℕ) → Within f → (c : construction.Card) → preorder f ≡ c .kinds → counts f ≡ c .counts → madeOf f .cells ≡ c .cells → construction.counted c .ops ≡ c .ops
+      → Holds l (Row.compiles (bytesOf f) (accepted (c .cells) (c .ops)))
+  makes f w c kinds kids cells ops =
+      let ns = flats (preorder f) (counts f) in
+      let made : madeOf f .ops ≡ c .ops
+      = op-count floats float faithful ns (omega (arith, sizes f .nodes, w .few)) ∙ (λ i. opCount (construct pairs (flats (kinds i) (kids i)))) ∙ sym (card-ops c) ∙ ops in
+      ap told (all f w .accepted) ∙ (λ i. accepted (cells i) (made i))
+
+  -- a card of the walk
+  ticked : (c : walks.Card) → Within (c .tree) → Shaped c → walk (c .tree) (c .flags) (c .cursors) (c .row) ≡ c .answer → Holds l (Row.ticks (bytesOf (c .tree)) (tickIn c))
+  unfolding walked
+  ticked c w s e =
+      record {
+        n = madeOf (c .tree);
+        compiled = all (c .tree) w .accepted;
+        comes =
+            λ m g.
+            let f = c .tree in
+            let ready : Ready f (madeOf f) m
+            = record {
+              flags-long = ap length (g .flags) ∙ s .flags-long;
+              flags-low = subst (λ (xs : List ℕ). All (λ (flag : ℕ). flag ≤ 1) xs) (sym (g .flags)) (s .flags-low);
+              cursors-long = ap length (g .cursors) ∙ s .cursors-long;
+              values-room = g .values-room;
+              statuses-room = omega (arith, g .statuses-room, nodes-length f);
+              halts-room = omega (arith, g .halts-room, nodes-length f);
+              edges-room = omega (arith, g .edges-room, leaves-count f (w .lowered) (w .few));
+            } in
+            let same = demand-2 l f (madeOf f) (all f w) (c .row) m (s .valid) ready in
+            let walks-as : walk f (m .flags) (m .cursors) (c .row) ≡ c .answer = (λ i. walk f (g .flags i) (g .cursors i) (c .row)) ∙ e in
+            record {
+              accepted = λ i. same i .answer;
+              statuses = (λ i. same i .left .statuses) ∙ (λ i. over (walks-as i .statuses) (m .statuses));
+              halts = (λ i. same i .left .halts) ∙ (λ i. over (walks-as i .halts) (m .halts));
+              flags = (λ i. same i .left .flags) ∙ (λ i. walks-as i .flags);
+              cursors = (λ i. same i .left .cursors) ∙ (λ i. walks-as i .cursors);
+            };
+      }
+
+  -- ---- the rows
+
+  refusals-hold : All (Holds l) (take 4 table)
+  unfolding rowOf rows recordAt parse treeOf
+  refusals-hold = (
+    refuses [] cause.Truncated 0 refl,
+    (
+      refuses (0x02 ∷ 0x00 ∷ 0x0B ∷ 0x00 ∷ []) (cause.Unsupported 11) 0 refl,
+      (refuses (composite 4 0) cause.EmptyComposite 0 refl, (refuses (leaf ++ 0x00 ∷ []) cause.Trailing 1 refl, tt)),
+    ),
+  )
+
+  counts-hold : All (Holds l) (take 3 (drop 4 table))
+  unfolding rowOf rows leavesOf cursorsOf
+  counts-hold = (
+    makes oneLeaf leaf-within (cardAt construction.cards 0) refl refl refl (ops-at 0),
+    (
+      makes walks.sequence sequence-within (cardAt construction.cards 1) refl refl refl (ops-at 1),
+      (makes twoReactive reactive-within (cardAt construction.cards 2) refl refl refl (ops-at 2), tt),
+    ),
+  )
+
+  abbrev tick : ℕ → walks.Card
+  tick k = getD walks.cards k (record { tree = none; flags = []; cursors = []; row = []; answer = answerAt [] 0 })
+
+  ticks-hold : All (Holds l) (drop 7 table)
+  unfolding rowOf rows walks.answered
+  ticks-hold = (
+    ticked (tick 0) sequence-within (shaped (tick 0) refl refl refl refl) (walk-at 0),
+    (
+      ticked (tick 1) sequence-within (shaped (tick 1) refl refl refl refl) (walk-at 1),
+      (
+        ticked (tick 2) below-within (shaped (tick 2) refl refl refl refl) (walk-at 2),
+        (ticked (tick 3) below-within (shaped (tick 3) refl refl refl refl) (walk-at 3), (ticked (tick 4) below-within (shaped (tick 4) refl refl refl refl) (walk-at 4), tt)),
+      ),
+    ),
+  )
+
+  -- THE CARDS
+  pub cards-hold : All (Holds l) table
+  cards-hold = (
+    refusals-hold .0,
+    (refusals-hold .1 .0, (refusals-hold .1 .1 .0, (refusals-hold .1 .1 .1 .0, (counts-hold .0, (counts-hold .1 .0, (counts-hold .1 .1 .0, ticks-hold)))))),
+  )
+
+-- there is such room: the lengths of docs/STORAGE, with the slots that are enough for every tree
+pub room : Enough (compile.lent (opsFrom + 5 * 2163) (opBiasesFrom + 2 * 2163) 507904 507904 13920 6960 262144 262144)
+unfolding compile.roomy
+room = record { fixed = refl; ops = leb-true 2163 2163 refl; terms = leb-true 507904 507904 refl }

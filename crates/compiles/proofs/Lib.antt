@@ -1,0 +1,6 @@
+pub mod Nodes
+pub mod Cells
+pub mod Shape
+pub mod Images
+pub mod Rises
+pub mod Passes

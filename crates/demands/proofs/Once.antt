@@ -1,0 +1,166 @@
+-- One tick of what compile leaves of a tree: no refusal, and the walk's answer. Assumes nothing.
+use mathlib.Core.Path.{_≡_, refl, sym, _∙_, ap}
+use mathlib.Core.Bool.{cond, _&&_}
+use mathlib.Core.List.{List, [], _∷_}
+use Prim.Native.Nat.{ℕ, suc, _+_, _≤_, _<_}
+use native.Mathlib.Omega.{arith}
+use borrow.Author.Tests.{le-leb, le-ltb, eq-eqb}
+use lib.Dec.{eqb}
+use lib.ListN.{length, getD}
+use lib.Ieee.{Float}
+use Rattle.tree.specs.Forest.{Forest, preorder, counts}
+use Rattle.tree.specs.Bytes as limits
+use Rattle.plan.specs.Plan.{placesFrom}
+use Rattle.plan.proofs.Laws.{places-rise}
+use Rattle.wire.specs.declared.Counts.{Counts}
+use Rattle.wire.specs.Storage.{leavesFrom}
+use Rattle.fill.specs.Fill.{prefix}
+use Rattle.verdict.specs.declared.Validated.{Validated}
+use Rattle.verdict.specs.declared.Validated.the-variants.{Sound}
+use Rattle.verdict.specs.Verdict.{tickVerdict, nodeOf}
+use Rattle.walk.specs.Lists.{All}
+use Rattle.walk.specs.Walk.{Fate, fatesOf, walk, answerOf, cellsIn, slotsIn}
+use Rattle.walk.proofs.Laws.{lengths, cursors-low}
+use Rattle.meaning.specs.Means as means
+use Rattle.agree.proofs.Values.{numbers}
+use Rattle.answers.specs.Answers.{edgeAt}
+use Rattle.circuit.specs.Check.{Stored}
+use Rattle.evaluate.specs.Evaluate.{tableOf, outsOf}
+use Rattle.lane.specs.declared.Ticked.{Ticked}
+use Rattle.lane.specs.declared.Ticked.the-variants as is
+use Rattle.lane.specs.Lane.{unless, Lent, lent, outcome, after, firstAbove, inputsOf, isSound, written, settleOf, computed, laneOf}
+use Rattle.tick.specs.Tick.{shapesOf, gateOf, tickOf}
+use Rattle.compiled.specs.Compile as compile
+use Rattle.encoded.proofs.Sets.{map-at}
+use Rattle.encoded.proofs.Back as back
+use Rattle.compiles.specs.Compiles.{treeCircuit, storedOf, Slots}
+use Rattle.compiles.proofs.Nodes.{nodes-length, leaves-are, leaves-count, cursors-count, leaf-tests}
+use Rattle.compiles.proofs.Shape.{fates-length}
+use Rattle.compiles.proofs.Images.{all-getD}
+use Rattle.compiles.proofs.Rises.{rising-below}
+use Rattle.compiles.proofs.Passes.{F, circuit-ok}
+use Rattle.ticks.specs.Values.{valuesOf}
+use Rattle.ticks.proofs.Outs.{outs-are}
+use Rattle.ticks.proofs.Sound.{verdict-sound}
+use Rattle.ticks.proofs.Written.{prefix-is, statuses-are, halts-are, flags-are, cursors-are, edge-is}
+use Rattle.ticks.proofs.Edges.{edgeOf, edges-are}
+use Rattle.demands.specs.Demands.{ValidRow, Ready, over, walked}
+
+-- ---- 15 and 16
+
+none-above : (most : ℕ) (xs : List ℕ) → All (λ (x : ℕ). x ≤ most) xs → firstAbove most xs ≡ length xs
+unfolding firstAbove
+none-above most [] h = refl
+none-above most (x ∷ xs) h = (λ i. cond (le-ltb most x (h .0) i) 0 (suc (none-above most xs (h .1) i)))
+
+inputs-ok : (row flags : List ℕ) → All (λ (x : ℕ). x ≤ 2) row → All (λ (x : ℕ). x ≤ 1) flags → inputsOf row flags ≡ is.Accepted
+unfolding inputsOf
+inputs-ok row flags r f =
+    λ i.
+    unless (eq-eqb (firstAbove 2 row) (length row) (none-above 2 row r) i) (is.BadStatus (firstAbove 2 row))
+    (unless (eq-eqb (firstAbove 1 flags) (length flags) (none-above 1 flags f) i) (is.BadFlag (nodeOf (firstAbove 1 flags))) is.Accepted)
+
+module _ (f : Forest ℕ) (w : limits.Within f) (l : compile.Lent) (slots : Slots l (treeCircuit f)) (row : List ℕ) (m : Lent) (valid : ValidRow f row) (ready : Ready f (storedOf l f .counts) m) where
+  abbrev s : Stored
+  s = storedOf l f
+
+  abbrev n : Counts
+  n = s .counts
+
+  abbrev xs : List Fate
+  xs = fatesOf f (m .flags) (m .cursors) row
+
+  abbrev cs : List ℕ
+  cs = means.cursorsOf xs
+
+  abbrev table : List Float
+  table = tableOf s row (m .flags) (m .cursors) (m .values)
+
+  leaves-same : n .leaves ≡ slotsIn f
+  leaves-same = leaves-count f (w .lowered) (w .few)
+
+  cursors-same : n .cursors ≡ cellsIn f
+  cursors-same = cursors-count f (w .lowered) (w .few)
+
+  pub given : (k : ℕ) → k < slotsIn f → getD row k 0 ≤ 2
+  given k h = all-getD (λ (x : ℕ). x ≤ 2) row k 0 (valid .low) (omega (arith, valid .long))
+
+  -- ---- 17, 11, 12, 13, 14
+
+  gate-ok : gateOf s row m ≡ is.Accepted
+  unfolding shapesOf
+  gate-ok =
+      let nodes = nodes-length f in
+      let a = eq-eqb (length row) (n .leaves) (valid .long ∙ sym leaves-same) in
+      let b = eq-eqb (length (m .flags)) (n .nodes) (ready .flags-long ∙ sym nodes) in
+      let c = eq-eqb (length (m .cursors)) (n .cursors) (ready .cursors-long ∙ sym cursors-same) in
+      let v = le-leb (n .cells + n .ops) (length (m .values)) (ready .values-room) in
+      let t = le-leb (n .nodes) (length (m .statuses)) (omega (arith, ready .statuses-room)) in
+      let h = le-leb (n .nodes) (length (m .halts)) (omega (arith, ready .halts-room)) in
+      let e = le-leb (n .leaves) (length (m .edges)) (omega (arith, ready .edges-room, leaves-same)) in
+      λ i.
+      unless (circuit-ok f w l slots i) is.BadCircuit
+      (unless (a i) (is.LeafCount (length row))
+      (unless (b i) (is.StateShape (length (m .flags)))
+      (unless (c i) (is.CursorCount (length (m .cursors)))
+      (unless (v i && (t i && (h i && e i))) is.ShortRoom is.Accepted))))
+
+  -- ---- 18
+
+  pub fate-count : length xs ≡ n .nodes
+  fate-count = fates-length f (m .flags) (m .cursors) row ∙ sym (nodes-length f)
+
+  resume-count : length cs ≡ n .cursors
+  unfolding walk answerOf
+  resume-count = lengths f (m .flags) (m .cursors) row .cursors ∙ sym cursors-same
+
+  resumes-low : All (λ (v : ℕ). v ≤ 65535) cs
+  unfolding walk answerOf
+  resumes-low = cursors-low f (m .flags) (m .cursors) row (omega (arith, w .few))
+
+  pub outs-same : outsOf s table ≡ numbers (valuesOf xs)
+  outs-same = outs-are f w l slots (m .flags) (m .cursors) row (m .values) given (ready .values-room)
+
+  sound : tickVerdict (numbers (valuesOf xs)) (n .nodes) (n .cursors) ≡ Sound
+  sound = verdict-sound xs cs (n .nodes) (n .cursors) fate-count resume-count resumes-low
+
+  -- ---- what is written
+
+  edges-same : (old : List ℕ) → prefix (edgeAt (s .nums) (m .flags) (numbers (valuesOf xs))) (n .leaves) old ≡ over (walk f (m .flags) (m .cursors) row .edges) old
+  unfolding walk answerOf
+  edges-same old =
+      let p = compile.listsOf (preorder f) (counts f) in
+      let leaves = placesFrom (λ k. eqb k 1) 0 (preorder f) in
+      let listed : p .leaves ≡ leaves = leaves-are f (w .lowered) (w .few) in
+      let same = edges-are f (m .flags) (m .cursors) row (leaf-tests f (w .lowered)) in
+      let long : length leaves ≡ n .leaves = sym (ap length listed) in
+      let rise = places-rise (λ k. eqb k 1) 0 (preorder f) in
+      prefix-is (edgeAt (s .nums) (m .flags) (numbers (valuesOf xs))) (n .leaves) (walk f (m .flags) (m .cursors) row .edges) old
+      (lengths f (m .flags) (m .cursors) row .edges ∙ sym leaves-same)
+      (λ k h.
+      let node = getD leaves k 0 in
+      let at : getD (s .nums) (leavesFrom + k) 0 ≡ node
+      = back.leaves-stand n p (treeCircuit f) (l .nums) (l .biases) (l .wires) (l .coefs) (F f w l slots) k h ∙ ap (λ (ys : List ℕ). getD ys k 0) listed in
+      let below : node < n .nodes = omega (arith, rising-below 0 (0 + length (preorder f)) leaves k rise (omega arith)) in
+      edge-is xs cs (n .nodes) (n .cursors) fate-count resume-count (s .nums) (m .flags) k node at below
+      ∙ sym (map-at (edgeOf (m .flags) xs) leaves k 0 0 (omega arith)) ∙ sym (ap (λ (ys : List ℕ). getD ys k 0) same))
+
+  written-same : written n (s .nums) (numbers (valuesOf xs)) (computed m table) ≡ walked s f row m
+  unfolding written walked walk answerOf
+  written-same =
+      let e1 = flags-are xs cs (n .nodes) (n .cursors) fate-count resume-count (m .flags) (ready .flags-long ∙ sym (nodes-length f)) in
+      let e2 = cursors-are xs cs (n .nodes) (n .cursors) fate-count resume-count (m .cursors) (ready .cursors-long ∙ sym cursors-same) resumes-low in
+      let e3 = statuses-are xs cs (n .nodes) (n .cursors) fate-count resume-count (m .statuses) in
+      let e4 = halts-are xs cs (n .nodes) (n .cursors) fate-count resume-count (m .halts) in
+      λ i. lent (e1 i) (e2 i) table (e3 i) (e4 i) (edges-same (m .edges) i)
+
+  -- THE LAW
+  pub ticks : tickOf s row m ≡ outcome is.Accepted (walked s f row m)
+  unfolding tickOf laneOf settleOf
+  ticks =
+      let v = tickVerdict (outsOf s table) (n .nodes) (n .cursors) in
+      ap (λ (t : Ticked). after t m (laneOf s row m)) gate-ok
+      ∙ ap (λ (t : Ticked). after t m (settleOf n (s .nums) (outsOf s table) (computed m table))) (inputs-ok row (m .flags) (valid .low) (ready .flags-low))
+      ∙ ap (λ (outs : List Float). settleOf n (s .nums) outs (computed m table)) outs-same
+      ∙ ap (λ (u : Validated). cond (isSound u) (outcome is.Accepted (written n (s .nums) (numbers (valuesOf xs)) (computed m table))) (outcome (is.BadInvariant u) (computed m table))) sound
+      ∙ ap (outcome is.Accepted) written-same
