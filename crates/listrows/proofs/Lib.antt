@@ -1,0 +1,10 @@
+pub mod Edges
+pub mod Fits
+pub mod Going
+pub mod Grown
+pub mod Lending
+pub mod Seamless
+pub mod Shown
+pub mod Steps
+pub mod Turns
+pub mod Unique

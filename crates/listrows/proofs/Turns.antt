@@ -1,0 +1,70 @@
+-- Step after step. Assumes nothing.
+use mathlib.Core.Path.{_≡_, refl, sym, _∙_, ap, subst}
+use mathlib.Core.Bool.{Bool, true, false, cond}
+use mathlib.Core.List.{List, [], _∷_, _++_, append-assoc}
+use Prim.Native.Nat.{ℕ, zero, suc, _+_, _-_, _≤_, _<_}
+use native.Mathlib.Omega.{arith}
+use borrow.Author.Tests.{lt-ltb, le-ltb, le-leb, eq-eqb}
+use lib.Dec.{eqb, ltb}
+use lib.ListN.{length, take, drop, length-append, length-drop}
+use lib.Seq.{drop-at, take-at, drop-drop}
+use Rattle.text.specs.Text.{placed}
+use Rattle.circuit.specs.Check.{Stored}
+use Rattle.lane.specs.Lane.{Outcome, accepted, numberOf, placeOf}
+use Rattle.listing.specs.declared.outer.Outer.{Outer}
+use Rattle.listing.specs.declared.outer.Outer.the-variants.{Whole, Cut, Bad}
+use Rattle.listing.specs.Line.{refusedLine, lineRoom}
+use Rattle.listing.specs.Outer.{outerAt}
+use Rattle.listrows.specs.Rows.{Kept, Step, Run, rowKind, rowOf, tickedFrom, lineAfter, textAfter, shows, breaks, stepAt, stepOf, stopped, rowsFrom, rowsOf}
+use Rattle.listrows.specs.Left.{StepLeft, RunLeft}
+use Rattle.listrows.proofs.Fits.{line-fits, refused-fits}
+use Rattle.listrows.proofs.Steps.{Lies, lies}
+
+-- ---- what a step prints fits, and what it reads is there
+
+text-fits : (s : Stored) (number : ℕ) (o : Outcome) → length (textAfter s number o) ≤ lineRoom
+unfolding textAfter
+text-fits s number o = go (accepted (o .answer))
+  where
+    go : (b : Bool) → length (cond b (lineAfter s number (o .left)) (refusedLine (numberOf (o .answer)) (placeOf (o .answer)))) ≤ lineRoom
+    go true = line-fits _ _ _ _ _
+    go false = refused-fits _ _
+
+pub record Modest (bytes : List ℕ) (o : Step) : Type 0 where
+  pub fits : length (o .text) ≤ lineRoom
+  pub there : o .read ≤ length bytes
+  pub some : o .goes ≡ true → 4 ≤ o .read
+
+never : false ≡ true → ⊥
+never e = let z : _≡_ {A = ℕ} 0 1 = cc in omega arith
+
+modest-at : (s : Stored) (bytes : List ℕ) (number : ℕ) (k : Kept) (p : Outer) → Lies bytes p → Modest bytes (stepAt p s bytes number k)
+unfolding stepAt rowOf
+modest-at s bytes number k (Whole kind start end) l = go (eqb kind rowKind)
+  where
+    go : (b : Bool) → Modest bytes (cond b (shows end number (rowOf s (take (end - start) (drop start bytes)) number k)) (breaks number k))
+    go true = record { fits = text-fits s number (tickedFrom s (take (end - start) (drop start bytes)) k); there = l .there; some = λ _. l .long }
+    go false = record { fits = omega arith; there = omega arith; some = λ e. absurd (never e) }
+modest-at s bytes number k Cut l = record { fits = omega arith; there = omega arith; some = λ e. absurd (never e) }
+modest-at s bytes number k Bad l = record { fits = omega arith; there = omega arith; some = λ e. absurd (never e) }
+
+pub modest : (s : Stored) (bytes : List ℕ) (number : ℕ) (k : Kept) → Modest bytes (stepOf s bytes number k)
+unfolding stepOf
+modest s bytes number k = modest-at s bytes number k (outerAt bytes 0) (lies bytes)
+
+-- ---- the three ways through a turn
+
+module _ (fuel : ℕ) (s : Stored) (room : ℕ) (bytes text : List ℕ) (read number : ℕ) (k : Kept) where
+  pub turn-full : room - length text < lineRoom → rowsFrom (suc fuel) s room bytes text read number k ≡ stopped text read number false k
+  unfolding rowsFrom
+  turn-full h = rw (lt-ltb (room - length text) lineRoom h, rowsFrom)
+
+  pub turn-goes : lineRoom ≤ room - length text → stepOf s (drop read bytes) number k .goes ≡ true
+      → rowsFrom (suc fuel) s room bytes text read number k ≡ (let o = stepOf s (drop read bytes) number k in rowsFrom fuel s room bytes (text ++ o .text) (read + o .read) (o .number) (o .kept))
+  unfolding rowsFrom
+  turn-goes h g = rw (le-ltb (room - length text) lineRoom h, g, rowsFrom)
+
+  pub turn-stops : lineRoom ≤ room - length text → stepOf s (drop read bytes) number k .goes ≡ false
+      → rowsFrom (suc fuel) s room bytes text read number k ≡ (let o = stepOf s (drop read bytes) number k in stopped (text ++ o .text) (read + o .read) (o .number) (o .ended) (o .kept))
+  unfolding rowsFrom
+  turn-stops h g = rw (le-ltb (room - length text) lineRoom h, g, rowsFrom)
