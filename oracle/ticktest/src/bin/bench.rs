@@ -1,12 +1,13 @@
-//! Time of a tick against the Rust's `evaluate` on the same circuits, in one run; and the share of the check for 17.
+//! Time of a tick against the Rust's `evaluate` on the same circuits, in one run, with the share of the check for 17; and of compiling
+//! against the Rust's `Lowered::new`.
 
 use std::hint::black_box;
 use std::time::Instant;
 
-use behavior_machines_circuit::State as RustState;
-use compare::circuit::{lower, rust_row};
+use behavior_machines_circuit::{Lowered, State as RustState};
+use compare::circuit::{lower, node_of, rust_row};
 use reading::{Kind, Rng, Tree};
-use ticktest::{Lent, Stored, linked};
+use ticktest::{Lent, Stored, Work, linked};
 
 /// Nanoseconds of one call, the least of several runs.
 fn least(mut call: impl FnMut()) -> f64 {
@@ -35,8 +36,8 @@ fn main() {
     println!(
         "tree            ops  terms     Rust ns     tick ns  check ns  tick/Rust  tick without check/Rust"
     );
-    for (name, tree) in trees {
-        let lowered = lower(&tree).expect("these lower");
+    for (name, tree) in &trees {
+        let lowered = lower(tree).expect("these lower");
         let stored = Stored::of(&lowered);
         let n = stored.counts;
         let mut rng = Rng::new(1);
@@ -64,5 +65,23 @@ fn main() {
             ours / rust,
             (ours - check) / rust
         );
+    }
+    println!("\ntree            Rust ns   compile ns  compile/Rust");
+    let mut work = Work::new();
+    for (name, tree) in &trees {
+        let node = node_of(tree);
+        let rust = least(|| {
+            black_box(Lowered::new(black_box(&node))).expect("these lower");
+        });
+        let n = Stored::of(&lower(tree).expect("these lower")).counts;
+        let bytes = tree.to_bytes();
+        let mut stored = Stored::dirty(n.ops, n.terms);
+        let ours = least(|| {
+            assert_eq!(
+                linked::compile(black_box(&bytes), &mut stored, &mut work).number,
+                0
+            );
+        });
+        println!("{name:14} {rust:9.0} {ours:12.0} {:13.2}", ours / rust);
     }
 }
