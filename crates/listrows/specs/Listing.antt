@@ -40,15 +40,15 @@ leftAfter s bytes more r = cond (r .ended) [] (restOf s (drop (r .read) bytes ++
 
 -- ---- the whole
 
--- "The op and term slots it lends are written in docs/"
+-- "The op and term slots it lends are written in docs/": as many as hold the circuit of any tree
 abbrev pub opSlotsLent : ℕ
-opSlotsLent = 2200
+opSlotsLent = 2163
 
 abbrev pub termSlotsLent : ℕ
-termSlotsLent = 65536
+termSlotsLent = 507904
 
 abbrev pub storageLent : Lent
-storageLent = lent (opsFrom + numsPerOp * opSlotsLent) (opBiasesFrom + biasesPerOp * opSlotsLent) termSlotsLent termSlotsLent 13920 6960 524288 524288
+storageLent = lent (opsFrom + numsPerOp * opSlotsLent) (opBiasesFrom + biasesPerOp * opSlotsLent) termSlotsLent termSlotsLent 13920 6960 262144 262144
 
 -- cells of 128 nodes at most, and the op slots
 abbrev pub valuesLent : ℕ
