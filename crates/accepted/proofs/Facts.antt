@@ -1,42 +1,36 @@
 -- Accepted bytes give the nodes of a tree within the limits, in slots that are enough for all that follows. Assumes nothing.
-use Prim.Native.Nat.{ℕ, suc, _+_, _≤_}
+use Prim.Native.Nat.{ℕ, _+_, _≤_}
 use native.Mathlib.Omega.{arith}
 use mathlib.Core.List.{List}
 use mathlib.Core.Path.{_≡_, _∙_, ap, refl, sym}
-use lib.ListN.{length, length-append, take}
+use lib.ListN.{length, take}
 use Rattle.accepted.specs.Accepted.{Accepted}
-use Rattle.accepted.proofs.Places.{cursors-long, leaves-long, nodes-at, padded-back, same-cursors, same-leaves}
-use Rattle.accepted.proofs.Shape.{cells-below, count-most, roots-are, rows-few, shaped, sound}
+use Rattle.accepted.proofs.Places.{nodes-at, padded-back, same-cursors, same-leaves}
+use Rattle.accepted.proofs.Shape.{cells-below, count-most, roots-are, rows-few, sound}
 use Rattle.counts.proofs.Slots.{ops-room}
 use Rattle.meaning.proofs.Sizes.{sizes}
-use Rattle.plan.proofs.Laws.{report-length, report-tree}
+use Rattle.plan.proofs.Laws.{report-tree}
+use Rattle.planned.proofs.Nodes.{cursors-count, leaves-count, report-count, shaped}
 use Rattle.rooms.proofs.Counted.{float-ops, float-pool}
 use Rattle.rooms.proofs.Enough.{room-enough}
-use Rattle.tree.proofs.Exact.{accepted-tree}
+use Rattle.trees.proofs.Exact.{accepted-tree}
+use Rattle.tree.proofs.Lengths.{counts-length, preorder-length}
 use Rattle.tree.specs.Bytes.{Bytes, Within}
-use Rattle.tree.specs.Forest.{Forest, counts, node, none, preorder, size, width}
+use Rattle.tree.specs.Forest.{Forest, counts, preorder, size, width}
 use Rattle.tree.specs.Tree.{accepted, padded, treeOf}
 use Rattle.walk.specs.Kind.{hasCursor, isLeaf}
 use Rattle.walk.specs.Walk.{cellsIn}
-
-preorder-long : (f : Forest ℕ) → length (preorder f) ≡ size f
-preorder-long none = refl
-preorder-long (node k kids rest) = ap suc (length-append (preorder kids) (preorder rest) ∙ omega (arith, preorder-long kids, preorder-long rest))
-
-counts-long : (f : Forest ℕ) → length (counts f) ≡ size f
-counts-long none = refl
-counts-long (node k kids rest) = ap suc (length-append (counts kids) (counts rest) ∙ omega (arith, counts-long kids, counts-long rest))
 
 -- of a tree within the limits
 tree-facts : (f : Forest ℕ) → Within f → Accepted (preorder f) (counts f)
 tree-facts f w =
     let ok = w .lowered in
     let few = w .few in
-    let long = preorder-long f in
+    let long = preorder-length f in
     let below : cellsIn f + width f ≤ size f = cells-below f ok in
     let short : length (preorder f) ≤ 128 = omega arith in
-    let leaves = leaves-long f ok short in
-    let cursors = cursors-long f ok short in
+    let leaves = leaves-count f ok few in
+    let cursors = cursors-count f ok few in
     let z = sizes f in
     record {
       tree = f;
@@ -48,7 +42,7 @@ tree-facts f w =
       sound = sound f ok;
       root = roots-are f ok ∙ w .one;
       nodes = z .nodes ∙ sym long;
-      counted = counts-long f ∙ sym long;
+      counted = counts-length f ∙ sym long;
       some = omega (arith, w .one, below);
       most = short;
       rows = rows-few f (w .one) few;
@@ -56,14 +50,14 @@ tree-facts f w =
       leaves-same = λ n. same-leaves n (preorder f) short;
       cursors-same = λ n. same-cursors n (preorder f) short;
       kinds-back = λ n. padded-back n (preorder f);
-      counts-back = λ n. ap (λ (k : ℕ). take k (padded n (counts f))) (long ∙ sym (counts-long f)) ∙ padded-back n (counts f);
+      counts-back = λ n. ap (λ (k : ℕ). take k (padded n (counts f))) (long ∙ sym (counts-length f)) ∙ padded-back n (counts f);
       slots = z .slots ∙ sym leaves;
       cells = z .cells ∙ sym cursors;
       leaves-few = omega (arith, leaves, count-most isLeaf f);
       cursors-few = omega (arith, cursors, count-most hasCursor f);
       inputs-are = omega (arith, z .nodes, z .cells, z .slots, leaves, cursors);
       report = report-tree f few;
-      reported = report-length (counts f) ∙ omega (arith, counts-long f, long);
+      reported = report-count f ok few ∙ sym long;
       circuit-ops = float-ops f few (omega (arith, w .one, below));
       circuit-terms = float-pool f few;
       ops = ops-room f (w .one) few (omega (arith, below, w .one));

@@ -1,9 +1,8 @@
--- A node that document 01 accepts has the children that its kind asks for, and stands in the plan's lists by its family. Assumes nothing.
+-- A node that document 01 accepts takes all its children, as the passes ask for it. Assumes nothing.
 use Prim.Native.Nat.{ℕ, _≤_}
 use native.Mathlib.Omega.{arith}
 use mathlib.Core.Path.{_≡_, refl, subst, sym}
 use mathlib.Core.List.{_∷_}
-use lib.Dec.{eqb}
 use Rattle.kinds.specs.declared.Family.{Family}
 use Rattle.kinds.specs.declared.Family.the-variants.{Unknown}
 use Rattle.kinds.specs.declared.Row.{Row}
@@ -11,18 +10,14 @@ use Rattle.kinds.specs.Kinds.{blank, rowOf, rows}
 use Rattle.kinds.proofs.Rows.{known}
 use Rattle.kinds.proofs.Table.{Every, at}
 use Rattle.tree.specs.Bytes.{Children}
-use Rattle.plan.specs.Plan.{eitherKind}
-use Rattle.walk.specs.Kind.{arity, bit, hasCursor, isLeaf, kindOf}
+use Rattle.walk.specs.Kind.{bit, hasCursor, kindOf}
 use Rattle.construct.specs.Lower.{flatOf}
 use Rattle.passes.specs.Passes.{Childed, takes}
 
 -- what is used of a node of kind k with n children
 pub record Fits (k n : ℕ) : Type 0 where
-  pub shape : n ≡ arity (kindOf k) n
   pub takes-all : takes (flatOf (kindOf k) n) ≡ n
   pub childed : Childed (flatOf (kindOf k) n)
-  pub leaf : eqb k 1 ≡ isLeaf (kindOf k)
-  pub cursor : eitherKind 4 6 k ≡ hasCursor (kindOf k)
   pub below : bit (hasCursor (kindOf k)) ≤ n
 
 infixr 20 _&_
@@ -42,16 +37,16 @@ fits k n c = at blank Right (blank ∷ rows) by-number k (omega (arith, known k 
     by-number : Every Right 0 (blank ∷ rows)
     by-number =
         (λ n c. absurd c)
-        & (λ n c. record { shape = c; takes-all = sym c; childed = tt; leaf = refl; cursor = refl; below = omega arith })
-        & (λ n c. record { shape = c; takes-all = sym c; childed = tt; leaf = refl; cursor = refl; below = omega arith })
-        & (λ n c. record { shape = c; takes-all = sym c; childed = tt; leaf = refl; cursor = refl; below = omega arith })
-        & (λ n c. record { shape = refl; takes-all = refl; childed = c; leaf = refl; cursor = refl; below = omega arith })
-        & (λ n c. record { shape = refl; takes-all = refl; childed = c; leaf = refl; cursor = refl; below = omega arith })
-        & (λ n c. record { shape = refl; takes-all = refl; childed = c; leaf = refl; cursor = refl; below = omega arith })
-        & (λ n c. record { shape = refl; takes-all = refl; childed = c; leaf = refl; cursor = refl; below = omega arith })
-        & (λ n c. record { shape = c; takes-all = sym c; childed = tt; leaf = refl; cursor = refl; below = omega arith })
-        & (λ n c. record { shape = c; takes-all = sym c; childed = tt; leaf = refl; cursor = refl; below = omega arith })
-        & (λ n c. record { shape = c; takes-all = sym c; childed = tt; leaf = refl; cursor = refl; below = omega arith })
+        & (λ n c. record { takes-all = sym c; childed = tt; below = omega arith })
+        & (λ n c. record { takes-all = sym c; childed = tt; below = omega arith })
+        & (λ n c. record { takes-all = sym c; childed = tt; below = omega arith })
+        & (λ n c. record { takes-all = refl; childed = c; below = omega arith })
+        & (λ n c. record { takes-all = refl; childed = c; below = omega arith })
+        & (λ n c. record { takes-all = refl; childed = c; below = omega arith })
+        & (λ n c. record { takes-all = refl; childed = c; below = omega arith })
+        & (λ n c. record { takes-all = sym c; childed = tt; below = omega arith })
+        & (λ n c. record { takes-all = sym c; childed = tt; below = omega arith })
+        & (λ n c. record { takes-all = sym c; childed = tt; below = omega arith })
         & (λ n c. absurd c)
         & (λ n c. absurd c)
         & (λ n c. absurd c)

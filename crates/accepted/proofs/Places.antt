@@ -3,22 +3,17 @@
 use Prim.Native.Nat.{ℕ, zero, suc, _+_, _-_, _≤_, _<_}
 use native.Mathlib.Omega.{arith}
 use mathlib.Core.Bool.{Bool, true, false}
-use mathlib.Core.List.{List, [], _∷_, _++_, append-assoc, append-nil}
+use mathlib.Core.List.{List, [], _∷_, _++_}
 use mathlib.Core.Path.{_≡_, _∙_, ap, refl, sym}
 use lib.Dec.{eqb}
 use lib.ListN.{List·getD-append, getD, length, replicate, take}
 use lib.Seq.{take-all, take-append-seam}
-use Rattle.accepted.proofs.Family.{fits}
 use Rattle.construct.specs.Circuit.{flats}
 use Rattle.construct.specs.Lower.{flatOf}
-use Rattle.kinds.specs.Kinds.{rowOf}
 use Rattle.passes.specs.Passes.{NodesAt}
 use Rattle.plan.specs.Plan.{cursorsOf, eitherKind, leavesOf, listed, placesFrom}
-use Rattle.tree.specs.Bytes.{Children, Lowered}
-use Rattle.tree.specs.Forest.{Forest, node, none, preorder, size, width}
 use Rattle.tree.specs.Tree.{padded}
-use Rattle.walk.specs.Kind.{Kind, bit, hasCursor, isLeaf, kindOf}
-use Rattle.walk.specs.Walk.{cellsIn, countIn, slotsIn}
+use Rattle.walk.specs.Kind.{kindOf}
 
 -- ---- the plan's lists
 
@@ -44,36 +39,6 @@ same-leaves n ks l = same-places (λ kind. eqb kind 1) refl n ks l
 pub same-cursors : (n : ℕ) (ks : List ℕ) → length ks ≤ 128 → cursorsOf (padded n ks) ≡ cursorsOf ks
 unfolding cursorsOf
 same-cursors n ks l = same-places (eitherKind 4 6) refl n ks l
-
--- a list's places are as many as the nodes of its kinds
-listed-long : (b : Bool) (n : ℕ) (more : List ℕ) → length (listed b n more) ≡ bit b + length more
-listed-long true n more = omega arith
-listed-long false n more = omega arith
-
-module _ (test : ℕ → Bool) (has : Kind → Bool) (same : (k n : ℕ) → Children (rowOf k .family) n → test k ≡ has (kindOf k)) where
-  places-before : (f : Forest ℕ) (i : ℕ) (ks : List ℕ) → Lowered f → length (placesFrom test i (preorder f ++ ks)) ≡ countIn has f + length (placesFrom test (i + size f) ks)
-  places-before none i ks ok = let e : i + 0 ≡ i = omega arith in rw e (omega arith)
-  places-before (node k kids rest) i ks ok =
-      let e : suc i + size kids + size rest ≡ i + suc (size kids + size rest) = omega arith in
-      let inner : length (placesFrom test (suc i) ((preorder kids ++ preorder rest) ++ ks)) ≡ countIn has kids + (countIn has rest + length (placesFrom test (i + suc (size kids + size rest)) ks))
-      = ap (λ (l : List ℕ). length (placesFrom test (suc i) l)) (append-assoc (preorder kids) (preorder rest) ks)
-      ∙ places-before kids (suc i) (preorder rest ++ ks) (ok .1)
-      ∙ ap (λ (n : ℕ). countIn has kids + n) (places-before rest (suc i + size kids) ks (ok .2) ∙ ap (λ (j : ℕ). countIn has rest + length (placesFrom test j ks)) e) in
-      listed-long (test k) i (placesFrom test (suc i) ((preorder kids ++ preorder rest) ++ ks))
-      ∙ ap (λ (b : Bool). bit b + length (placesFrom test (suc i) ((preorder kids ++ preorder rest) ++ ks))) (same k (width kids) (ok .0))
-      ∙ omega (arith, inner)
-
-  places-long : (f : Forest ℕ) → Lowered f → length (preorder f) ≤ 128 → length (placesFrom test 0 (take 128 (preorder f))) ≡ countIn has f
-  places-long f ok l =
-      ap (λ (ks : List ℕ). length (placesFrom test 0 ks)) (take-all 128 (preorder f) l ∙ sym (append-nil (preorder f))) ∙ places-before f 0 [] ok ∙ omega arith
-
-pub leaves-long : (f : Forest ℕ) → Lowered f → length (preorder f) ≤ 128 → length (leavesOf (preorder f)) ≡ slotsIn f
-unfolding leavesOf
-leaves-long f ok l = places-long (λ kind. eqb kind 1) isLeaf (λ k n c. fits k n c .leaf) f ok l
-
-pub cursors-long : (f : Forest ℕ) → Lowered f → length (preorder f) ≤ 128 → length (cursorsOf (preorder f)) ≡ cellsIn f
-unfolding cursorsOf
-cursors-long f ok l = places-long (eitherKind 4 6) hasCursor (λ k n c. fits k n c .cursor) f ok l
 
 -- ---- the nodes read from the slots
 

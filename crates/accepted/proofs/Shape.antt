@@ -9,17 +9,12 @@ use Rattle.construct.specs.Circuit.{flats}
 use Rattle.construct.specs.Lower.{Flat}
 use Rattle.counts.proofs.Slots.{kids-room}
 use Rattle.meaning.proofs.Same.{flats-are, nodesOf}
-use Rattle.meaning.specs.Means.{Shaped}
 use Rattle.passes.specs.Passes.{Sound, roots, rowsIn}
 use Rattle.tree.specs.Bytes.{Lowered}
 use Rattle.tree.specs.Forest.{Forest, counts, node, none, preorder, size, width}
 use Rattle.uses.specs.Uses.{upMore}
 use Rattle.walk.specs.Kind.{Kind, bit, kindOf}
 use Rattle.walk.specs.Walk.{cellsIn, countIn}
-
-pub shaped : (f : Forest ℕ) → Lowered f → Shaped kindOf f
-shaped none ok = tt
-shaped (node k kids rest) ok = (fits k (width kids) (ok .0) .shape, shaped kids (ok .1), shaped rest (ok .2))
 
 -- the nodes of a forest, before others
 roots-before : (f : Forest ℕ) (ns : List Flat) → Lowered f → roots (nodesOf f ++ ns) ≡ width f + roots ns

@@ -33,7 +33,7 @@ pub same-floats : (ns : List Flat) → length ns ≤ 128 → construct floats ns
 same-floats ns few = same-circuit floats float faithful ns few
 
 -- a fact of every form of a circuit is one of every op's forms
-all-first : {X : Type 0} (R : X → Type 0) (xs ys : List X) → All R (xs ++ ys) → All R xs
+pub all-first : {X : Type 0} (R : X → Type 0) (xs ys : List X) → All R (xs ++ ys) → All R xs
 all-first R [] ys h = tt
 all-first R (x ∷ xs) ys h = (h .0, all-first R xs ys (h .1))
 

@@ -16,7 +16,7 @@ pub fn is_running(flag: u8) -> bool
 }
 
 // The edge of a leaf that was running, or not, and is now, or not.
-pub fn edge(was: bool, is: bool) -> u8
+fn edge(was: bool, is: bool) -> u8
     ensures { λ r. ⌜ r ≡ edge was is ⌝ }
 {
     if was {

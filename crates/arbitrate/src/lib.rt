@@ -1,6 +1,6 @@
 // arbitrate, what each node would return if it were ticked, bottom-up: where the pass stands, and what a node asks of it.
-use arena::Room;
 use builder::Bit;
+use fits::Room;
 use status::StatusBits;
 use table::Builder;
 ghost use mathlib.Core.Path.{_≡_};

@@ -1,5 +1,1 @@
-pub mod Put
-pub mod Merge
 pub mod Outcome
-pub mod Holds
-pub mod Proper

@@ -5,25 +5,22 @@ use mathlib.Core.Bool.{Bool, true, false, _&&_, cond, false≢true}
 use Prim.Native.Nat.{ℕ, _+_, _-_, _≤_, _<_}
 use native.Mathlib.Omega.{arith}
 use borrow.Author.Tests.{eq-eqb, ne-eqb, ltb-true, leb-true}
-use lib.Dec.{ltb, leb, leb→le, le→leb}
+use lib.Dec.{ltb}
 use lib.ListN.{length, set}
 use lib.Ieee.{Float, binary32, add}
 use Rattle.exact.specs.Whole.{zero32, one32, minusOne32}
-use Rattle.exact.proofs.Whole.{same-test}
 use Rattle.wire.specs.declared.Form.{Form}
 use Rattle.wire.specs.declared.Term.{Term}
 use Rattle.wire.specs.Terms.{termsOf, constantForm}
 use Rattle.wire.specs.Storage.{termSlots}
-use Rattle.arena.specs.declared.Room.{Room}
-use Rattle.arena.specs.declared.Formed.{Formed}
-use Rattle.arena.specs.Sums.{kept, merge, times, scaledTerms}
-use Rattle.arena.specs.Arena.{Outcome, Leaves, refusedIn, sharedIn, writtenIn, singleFits, singleIn, sumFits, plusIn, scaledFits, scaledIn, oneMinusIn, offsetForm}
-use Rattle.arena.specs.Steps.{Put}
+use Rattle.fits.specs.declared.Room.{Room}
+use Rattle.fits.specs.declared.Formed.{Formed}
+use Rattle.sums.specs.Sums.{kept, merge, times, scaledTerms}
+use Rattle.fits.specs.Fits.{singleFits, sumFits, scaledFits}
+use Rattle.arena.specs.Arena.{Outcome, Leaves, refusedIn, sharedIn, writtenIn, singleIn, plusIn, scaledIn, oneMinusIn, offsetForm}
+use Rattle.sums.specs.Steps.{Put}
 
 -- ---- tests
-
-pub leb-iff : (a b c d : ℕ) → (a ≤ b → c ≤ d) → (c ≤ d → a ≤ b) → leb a b ≡ leb c d
-leb-iff a b c d h k = same-test (leb a b) (leb c d) (λ t. le→leb c d (h (leb→le a b t))) (λ t. le→leb a b (k (leb→le c d t)))
 
 pub and-true : (a b : Bool) → a && b ≡ true → (a ≡ true) × (b ≡ true)
 and-true true b e = (refl, e)

@@ -1,28 +1,23 @@
--- The same operations in an arena: the terms in use are those of the two lent pools below `used`, and a new form's terms are written right past them.
+-- The operations of crate sums, specs/Sums, in an arena: the terms in use are those of the two lent pools below `used`, and a new form's terms are written right past them.
 -- An operation answers a form and the room that is left. Where there was no room it writes nothing, and the flag `ok` falls and stays down. Definitions only.
 use Prim.Native.Nat.{ℕ, _+_}
 use mathlib.Core.Path.{_≡_}
-use mathlib.Core.List.{List, [], _∷_, map}
-use mathlib.Core.Bool.{Bool, true, false, cond, _&&_}
+use mathlib.Core.List.{List, [], _∷_}
+use mathlib.Core.Bool.{true, false, cond}
 use lib.ListN.{length}
 use lib.Seq.{sets}
-use lib.Dec.{leb, ltb, eqb}
+use lib.Dec.{eqb}
 use lib.Ieee.{Float, binary32, add}
 use Rattle.exact.specs.Whole.{zero32, one32, minusOne32}
 use Rattle.wire.specs.declared.Form.{Form}
 use Rattle.wire.specs.declared.Term.{Term}
 use Rattle.wire.specs.Terms.{termsOf, constantForm}
 use Rattle.wire.specs.Storage.{termSlots}
-use Rattle.arena.specs.declared.Room.{Room}
-use Rattle.arena.specs.declared.Formed.{Formed}
-use Rattle.arena.specs.Sums.{kept, merge, times, scaledTerms}
-
--- the two pools of a list of terms
-abbrev pub wiresIn : List Term → List ℕ
-wiresIn ts = map (λ (t : Term). t .wire .0) ts
-
-abbrev pub coefsIn : List Term → List Float
-coefsIn ts = map (λ (t : Term). t .coef) ts
+use Rattle.sums.specs.Sums.{kept, merge, times, scaledTerms}
+use Rattle.sums.specs.Steps.{wiresIn, coefsIn}
+use Rattle.fits.specs.declared.Room.{Room}
+use Rattle.fits.specs.declared.Formed.{Formed}
+use Rattle.fits.specs.Fits.{singleFits, sumFits, scaledFits}
 
 -- what an operation leaves and answers
 pub record Outcome : Type 0 where
@@ -56,28 +51,16 @@ writtenIn ws cs used bias ts =
       room = record { used = used + length ts; ok = true };
     }
 
--- the form's terms are in use
-abbrev pub inUse : ℕ → Form → Bool
-inUse used f = leb (f .first + f .len) used
-
 -- ---- the operations
 
 abbrev pub offsetForm : Float → Form → Form
 offsetForm shift f = record { bias = add binary32 (f .bias) shift; first = f .first; len = f .len }
-
-abbrev pub singleFits : ℕ → Room → Bool
-singleFits slots room = room .ok && ltb (room .used) slots
 
 unfoldable pub singleIn : List ℕ → List Float → Room → ℕ → Outcome
 singleIn ws cs room w =
     cond (singleFits (termSlots (length ws) (length cs)) room)
     (writtenIn ws cs (room .used) zero32 (record { wire = record { 0 = w }; coef = one32 } ∷ []))
     (refusedIn ws cs room)
-
--- there is room for as many terms as the two forms have
-abbrev pub sumFits : ℕ → Room → Form → Form → Bool
-sumFits slots room a b =
-    room .ok && (inUse (room .used) a && (inUse (room .used) b && leb (room .used + a .len + b .len) slots))
 
 unfoldable pub plusIn : List ℕ → List Float → Room → Form → Form → Outcome
 unfolding kept merge
@@ -90,9 +73,6 @@ plusIn ws cs room a b =
     (cond (sumFits (termSlots (length ws) (length cs)) room a b)
     (writtenIn ws cs (room .used) bias (kept (merge (termsOf ws cs a) (termsOf ws cs b))))
     (refusedIn ws cs room)))
-
-abbrev pub scaledFits : ℕ → Room → Form → Bool
-scaledFits slots room a = room .ok && (inUse (room .used) a && leb (room .used + a .len) slots)
 
 unfoldable pub scaledIn : List ℕ → List Float → Room → Form → Float → Outcome
 unfolding kept

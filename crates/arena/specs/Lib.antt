@@ -1,4 +1,1 @@
-pub mod Sums
 pub mod Arena
-pub mod Steps
-pub mod Holds

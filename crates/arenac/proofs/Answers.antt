@@ -3,7 +3,7 @@ use Prim.Native.Nat.{ℕ}
 use mathlib.Core.Path.{_≡_, _∙_}
 use mathlib.Core.List.{List}
 use lib.Ieee.{Float}
-use Rattle.arena.specs.declared.Formed.{Formed}
+use Rattle.fits.specs.declared.Formed.{Formed}
 use Rattle.arena.specs.Arena.{Outcome, Leaves as Left}
 use Rattle.arenac.specs.declared.Row.{Row}
 use Rattle.arenac.specs.Flat.{Leaves}

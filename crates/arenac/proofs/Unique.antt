@@ -3,7 +3,7 @@ use mathlib.Core.Path.{_≡_, sym, _∙_}
 use mathlib.Core.List.{List}
 use Prim.Native.Nat.{ℕ}
 use lib.Ieee.{Float}
-use Rattle.arena.specs.declared.Formed.{Formed}
+use Rattle.fits.specs.declared.Formed.{Formed}
 use Rattle.arena.specs.Arena.{Outcome}
 use Rattle.arena.specs.Arena as forms
 use Rattle.arenac.specs.declared.Row.{Row}

@@ -1,6 +1,6 @@
 // The arena's operations for callers in C and Rust: a form by its bias and range, the room by the terms in use and the flag.
-use arena::Formed;
-use arena::Room;
+use fits::Formed;
+use fits::Room;
 use wire::Form;
 ghost use mathlib.Core.Path.{_≡_};
 ghost use mathlib.Core.Bool.{true};

@@ -1,6 +1,6 @@
 // The building phase: the circuit of a tree in what is lent, from an empty arena and no ops.
 use arbitrate::Up;
-use arena::Room;
+use fits::Room;
 use reach::Down;
 use table::Builder;
 use wire::Form;

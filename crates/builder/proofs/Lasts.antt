@@ -11,10 +11,10 @@ use Rattle.exact.specs.Whole.{zero32, one32, minusOne32}
 use Rattle.wire.specs.declared.Form.{Form}
 use Rattle.wire.specs.declared.Term.{Term}
 use Rattle.wire.specs.Terms.{Affine, constantForm}
-use Rattle.arena.specs.Sums as S
+use Rattle.sums.specs.Sums as S
 use Rattle.arena.specs.Arena.{offsetForm}
-use Rattle.arena.proofs.Holds.{holds-offset}
-use Rattle.arena.proofs.Merge.{merged-length, scaled-length}
+use Rattle.holds.proofs.Holds.{holds-offset}
+use Rattle.holds.proofs.Lengths.{merged-length, scaled-length}
 use Rattle.construct.specs.Builder as B
 use Rattle.construct.specs.Builder.{Op}
 use Rattle.floats.specs.Floats.{floats}

@@ -13,11 +13,11 @@ use Rattle.exact.specs.Whole.{diff, zero32, one32, minusOne32}
 use Rattle.wire.specs.declared.Form.{Form}
 use Rattle.wire.specs.declared.Term.{Term}
 use Rattle.wire.specs.Terms.{Affine, constantForm}
-use Rattle.arena.specs.Sums as S
+use Rattle.sums.specs.Sums as S
 use Rattle.arena.specs.Arena.{offsetForm}
-use Rattle.arena.specs.declared.Room.{Room}
-use Rattle.arena.specs.Holds.{Is, Holds}
-use Rattle.arena.proofs.Holds.{is-length, holds-constant, holds-offset}
+use Rattle.fits.specs.declared.Room.{Room}
+use Rattle.holds.specs.Holds.{Is, Holds}
+use Rattle.holds.proofs.Holds.{is-length, holds-constant, holds-offset}
 use Rattle.walk.specs.Kind.{bit}
 use Rattle.construct.specs.Forms.{Open}
 use Rattle.construct.specs.Builder as B

@@ -10,7 +10,7 @@ ghost use mathlib.Core.List.{List};
 ghost use Prim.Native.Nat.{ℕ};
 ghost use lib.Ieee.{Float};
 ghost use Rattle.table.specs.Work.{Whole, mem, ended};
-ghost use Rattle.table.specs.Steps.{oneMinusIn, plusIn, pushIn};
+ghost use Rattle.table.specs.Steps.{oneMinusIn, plusIn};
 ghost use Rattle.builder.specs.Bits.{bitForm, isTrue, isFalse, minusIn, reluIn, isZeroIn, stepIn, atLeastIn, andIn, eitherIn, orIn};
 
 // A form that holds exactly 0 or 1.
@@ -37,7 +37,7 @@ impl Bit {
     }
 
     // Whether it is decided, and set.
-    pub fn is_true(self) -> bool
+    fn is_true(self) -> bool
         ensures { λ r. ⌜ r ≡ isTrue (self .0) ⌝ }
     {
         let f = self.0;
@@ -45,7 +45,7 @@ impl Bit {
     }
 
     // Whether it is decided, and not set.
-    pub fn is_false(self) -> bool
+    fn is_false(self) -> bool
         ensures { λ r. ⌜ r ≡ isFalse (self .0) ⌝ }
     {
         let f = self.0;
@@ -101,7 +101,7 @@ fn minus(wires: &mut [u32], coefs: &mut [f32], builder: Builder, f: Form, g: For
 }
 
 // `max(0, form)`. One op.
-pub fn relu(
+fn relu(
     wires: &mut [u32],
     coefs: &mut [f32],
     nums: &mut [usize],
@@ -115,24 +115,6 @@ pub fn relu(
 {
     let one = Form::constant(1.0);
     table::push(wires, coefs, nums, biases, builder, one, form)
-}
-
-// `value` when the bit is 1, and 0 when it is 0. One op.
-pub fn mask(
-    wires: &mut [u32],
-    coefs: &mut [f32],
-    nums: &mut [usize],
-    biases: &mut [f32],
-    builder: Builder,
-    value: Form,
-    bit: Bit,
-) -> Made
-    requires { ⌜ Whole (now nums) (now biases) ⌝ }
-    ensures { λ r. ⌜ ended (now (wires .exit)) (now (coefs .exit)) (now (nums .exit)) (now (biases .exit)) (r .builder) (r .form)
-        ≡ pushIn (mem (now (wires .entry)) (now (coefs .entry)) (now (nums .entry)) (now (biases .entry))) builder value (bit .0) ⌝ }
-{
-    let gate = bit.0;
-    table::push(wires, coefs, nums, biases, builder, value, gate)
 }
 
 // `[count == 0]`. One op, or none if the count is constant.

@@ -1,4 +1,4 @@
--- Every row of the table of bench cards holds, whatever room is lent, if it is enough. The layers' own tables are computed in tree/proofs/Cards
+-- Every row of the table of bench cards holds, whatever room is lent, if it is enough. The layers' own tables are computed in trees/proofs/Cards
 -- (refusals, and the cards on limits), construct/specs/Cards (ops) and walk/specs/Cards (ticks). Assumes nothing.
 use Prim.Native.Nat.{ℕ, _+_, _*_, _≤_}
 use native.Mathlib.Omega.{arith}
@@ -11,11 +11,11 @@ use lib.ListN.{length, getD, take, drop}
 use Rattle.kinds.specs.Kinds.{rows, rowOf}
 use Rattle.tree.specs.Forest.{Forest, none, node, preorder, counts, size}
 use Rattle.tree.specs.Bytes.{Within, bytesOf}
-use Rattle.tree.specs.Record.{recordAt}
+use Rattle.record.specs.Record.{recordAt}
 use Rattle.tree.specs.Tree.{refusedAt, parse, treeOf}
-use Rattle.tree.specs.Refusal.{numberOf, kindOf}
-use Rattle.tree.specs.declared.refusal.Cause.{Cause}
-use Rattle.tree.specs.declared.refusal.Cause.the-variants as cause
+use Rattle.record.specs.Refusal.{numberOf, kindOf}
+use Rattle.record.specs.declared.refusal.Cause.{Cause}
+use Rattle.record.specs.declared.refusal.Cause.the-variants as cause
 use Rattle.plan.specs.Plan.{leavesOf, cursorsOf}
 use Rattle.wire.specs.declared.Counts.{Counts}
 use Rattle.wire.specs.Storage.{opsFrom, opBiasesFrom}
@@ -34,7 +34,8 @@ use Rattle.rooms.proofs.Counted.{op-count}
 use Rattle.lane.specs.Lane.{Lent}
 use Rattle.compiled.specs.Compile as compile
 use Rattle.compiles.specs.Compiles.{treeCircuit}
-use Rattle.compiles.proofs.Nodes.{nodes-length, leaves-count}
+use Rattle.tree.proofs.Lengths.{preorder-length}
+use Rattle.planned.proofs.Nodes.{leaves-count}
 use Rattle.demands.specs.Demands.{Compiles, ValidRow, Ready, over, walked}
 use Rattle.demands.proofs.Demand2.{demand-2}
 use Rattle.demands.proofs.Trees.{compiles-all}
@@ -52,7 +53,7 @@ leaf-within : Within oneLeaf
 unfolding rowOf rows
 leaf-within = record { one = refl; lowered = (refl, tt, tt); few = omega arith; shallow = omega arith }
 
-sequence-within : Within walks.sequence
+pub sequence-within : Within walks.sequence
 unfolding rowOf rows
 sequence-within = record { one = refl; lowered = (omega arith, (refl, tt, (refl, tt, tt)), tt); few = omega arith; shallow = omega arith }
 
@@ -157,8 +158,8 @@ module _ (l : compile.Lent) (enough : Enough l) where
               flags-low = subst (λ (xs : List ℕ). All (λ (flag : ℕ). flag ≤ 1) xs) (sym (g .flags)) (s .flags-low);
               cursors-long = ap length (g .cursors) ∙ s .cursors-long;
               values-room = g .values-room;
-              statuses-room = omega (arith, g .statuses-room, nodes-length f);
-              halts-room = omega (arith, g .halts-room, nodes-length f);
+              statuses-room = omega (arith, g .statuses-room, preorder-length f);
+              halts-room = omega (arith, g .halts-room, preorder-length f);
               edges-room = omega (arith, g .edges-room, leaves-count f (w .lowered) (w .few));
             } in
             let same = demand-2 l f (madeOf f) (all f w) (c .row) m (s .valid) ready in

@@ -4,7 +4,7 @@ use mathlib.Core.Path.{_≡_}
 use mathlib.Core.Bool.{true}
 use mathlib.Core.List.{List, [], _∷_, _++_}
 use lib.ListN.{length}
-use Rattle.tree.specs.Refusal.{numberOf, kindOf}
+use Rattle.record.specs.Refusal.{numberOf, kindOf}
 use Rattle.wire.specs.declared.Counts.{Counts}
 use Rattle.wire.specs.Storage.{opSlots, termSlots}
 use Rattle.circuit.specs.Check.{stored}

@@ -6,8 +6,8 @@ use lib.Dec.{leb, ltb}
 use lib.ListN.{length, replicate}
 use lib.Ieee.{Float}
 use Rattle.exact.specs.Whole.{zero32}
-use Rattle.tree.specs.declared.refusal.Cause.{Cause}
-use Rattle.tree.specs.declared.refusal.Cause.the-variants.{NoOpRoom, NoTermRoom, ShortRoom}
+use Rattle.record.specs.declared.refusal.Cause.{Cause}
+use Rattle.record.specs.declared.refusal.Cause.the-variants.{NoOpRoom, NoTermRoom, ShortRoom}
 use Rattle.tree.specs.Tree.{Parsed, accepted, refused, treeOf}
 use Rattle.plan.specs.Plan.{leavesOf, cursorsOf, reportOf}
 use Rattle.wire.specs.declared.Counts.{Counts}

@@ -9,7 +9,7 @@ use Rattle.exact.specs.Whole.{zero32}
 use Rattle.wire.specs.declared.Term.{Term}
 use Rattle.wire.specs.Terms.{Affine}
 use Rattle.wire.specs.Storage.{leavesFrom, cursorsFrom, reportFrom, outputsFrom, opsFrom, opBiasesFrom, regluKind}
-use Rattle.arena.specs.Arena.{wiresIn, coefsIn}
+use Rattle.sums.specs.Steps.{wiresIn, coefsIn}
 use Rattle.construct.specs.Builder.{Op}
 use Rattle.construct.specs.Circuit.{Circuit, opForms, outputForms, formsOf}
 

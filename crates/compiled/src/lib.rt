@@ -1,5 +1,5 @@
 // What compiling answers, and how much room it needs. The code is crate `lower`; what it leaves in storage is said in specs/.
-use tree::Refusal;
+use record::Refusal;
 use wire::Counts;
 
 // The counts of the circuit that now stands in storage, or why there is none.

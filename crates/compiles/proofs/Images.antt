@@ -38,10 +38,6 @@ all-getD R [] k d h b = absurd (omega arith)
 all-getD R (x ∷ xs) zero d h b = h .0
 all-getD R (x ∷ xs) (suc k) d h b = all-getD R xs k d (h .1) (omega arith)
 
-pub all-first : {A : Type 0} (R : A → Type 0) (xs ys : List A) → All R (xs ++ ys) → All R xs
-all-first R [] ys h = tt
-all-first R (x ∷ xs) ys h = (h .0, all-first R xs ys (h .1))
-
 pub all-second : {A : Type 0} (R : A → Type 0) (xs ys : List A) → All R (xs ++ ys) → All R ys
 all-second R [] ys h = h
 all-second R (x ∷ xs) ys h = all-second R xs ys (h .1)

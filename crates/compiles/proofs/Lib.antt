@@ -1,4 +1,3 @@
-pub mod Nodes
 pub mod Cells
 pub mod Shape
 pub mod Images

@@ -49,9 +49,11 @@ use Rattle.encoded.proofs.Sets.{map-at}
 use Rattle.encoded.proofs.Places.{noForm, noOp}
 use Rattle.encoded.proofs.Back as back
 use Rattle.compiles.specs.Compiles.{treeCircuit, storedOf, Slots}
-use Rattle.compiles.proofs.Nodes.{nodes-length, counts-length, leaves-are, cursors-are, leaves-few, cursors-few, leaves-count, cursors-count}
+use Rattle.tree.proofs.Lengths.{preorder-length, counts-length}
+use Rattle.planned.proofs.Nodes.{leaves-are, cursors-are, leaves-few, cursors-few, leaves-count, cursors-count}
+use Rattle.agree.proofs.Tree.{all-first}
 use Rattle.compiles.proofs.Shape.{in-floats, fits}
-use Rattle.compiles.proofs.Images.{form-images, outs-images, all-getD, all-first, all-second, op-all, in-order-at}
+use Rattle.compiles.proofs.Images.{form-images, outs-images, all-getD, all-second, op-all, in-order-at}
 use Rattle.compiles.proofs.Rises.{pairs-rise, list-rises, once}
 
 -- ---- one form
@@ -182,7 +184,7 @@ module _ (f : Forest ℕ) (w : Within f) (l : Lent) (slots : Slots l (treeCircui
 
   pub cells-same : inputs (flats (preorder f) (counts f)) ≡ n .cells
   cells-same =
-      omega (arith, sizes f .nodes, sizes f .cells, sizes f .slots, nodes-length f, leaves-count f (w .lowered) (w .few), cursors-count f (w .lowered) (w .few))
+      omega (arith, sizes f .nodes, sizes f .cells, sizes f .slots, preorder-length f, leaves-count f (w .lowered) (w .few), cursors-count f (w .lowered) (w .few))
 
   pub scoped : S.Scoped (n .cells) d
   scoped = rw cells-same at (circuit-scoped (flats (preorder f) (counts f)))
@@ -244,12 +246,12 @@ module _ (f : Forest ℕ) (w : Within f) (l : Lent) (slots : Slots l (treeCircui
   report-ok : eachOnce (s .nums) W.reportFrom (n .nodes) ≡ true
   report-ok =
       once (s .nums) (p .report) W.reportFrom (n .nodes) (F .report) (back.report-stands n p (treeCircuit f) (l .nums) (l .biases) (l .wires) (l .coefs) F)
-      (λ v h. report-once (counts f) v (omega (arith, nodes-length f, counts-length f, w .few)))
+      (λ v h. report-once (counts f) v (omega (arith, preorder-length f, counts-length f, w .few)))
 
   sizes-ok : sizesOk n ≡ true
   sizes-ok =
-      sym (sizes-5 n (omega (arith, some-node f (w .one), nodes-length f)) (omega (arith, nodes-length f, w .few))
-      (omega (arith, cursors-few f (w .lowered) (w .few), nodes-length f)) (omega (arith, leaves-few f (w .lowered) (w .few), nodes-length f)))
+      sym (sizes-5 n (omega (arith, some-node f (w .one), preorder-length f)) (omega (arith, preorder-length f, w .few))
+      (omega (arith, cursors-few f (w .lowered) (w .few), preorder-length f)) (omega (arith, leaves-few f (w .lowered) (w .few), preorder-length f)))
       ∙ eq-eqb (n .cells) (n .nodes + n .cursors + 3 * n .leaves) refl
 
   lent-ok : countsLent s ≡ true

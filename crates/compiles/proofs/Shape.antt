@@ -22,7 +22,8 @@ use Rattle.compiled.specs.Encode.{outputsIn, termsOfAll}
 use Rattle.compiled.specs.Compile.{Lent, listsOf, countsOf}
 use Rattle.encoded.specs.Encoded.{Fits}
 use Rattle.compiles.specs.Compiles.{treeCircuit, Slots}
-use Rattle.compiles.proofs.Nodes.{shaped, nodes-length, leaves-count, cursors-count, report-count, leaves-few, cursors-few}
+use Rattle.tree.proofs.Lengths.{preorder-length}
+use Rattle.planned.proofs.Nodes.{shaped, leaves-count, cursors-count, report-count, leaves-few, cursors-few}
 use Rattle.compiles.proofs.Cells.{cellsFor, cells-loaded}
 
 pub all2-length : {A B : Type 0} {R : A → B → Type 0} {xs : List A} {ys : List B} → All2 R xs ys → length xs ≡ length ys
@@ -68,7 +69,7 @@ module _ (f : Forest ℕ) (w : Within f) where
   pub fits : (l : Lent) → Slots l (treeCircuit f)
       → Fits (countsOf (preorder f) (treeCircuit f)) (listsOf (preorder f) (counts f)) (treeCircuit f) (l .nums) (l .biases) (l .wires) (l .coefs)
   fits l s =
-      let n = nodes-length f in
+      let n = preorder-length f in
       let k = cursors-count f (w .lowered) (w .few) in
       let m = leaves-count f (w .lowered) (w .few) in
       record {

@@ -5,10 +5,11 @@
 -- permitted coincide is proved where the last column says.
 --   compile: crate lower              compileOf, crate compiled, specs/Compile         one-compile, one-work-room, here
 --   flatten: crate tree, src/flat     flatOf, specs/Tree; 1 to 8 by recordAt, parse    one-flattening, here
---   read_record, number, kind: tree   recordAt, specs/Record; specs/Refusal            one-record, one-number, one-kind, here
+--   read_record, number, kind:        recordAt, specs/Record; numberOf, kindOf,        one-record, one-number, one-kind, here
+--     crate record                      specs/Refusal
 --   leaf_list, cursor_list,           leavesOf, cursorsOf, reportOf:                   one-list, here
 --     report_order: crate plan          specs/Plan
---   cells: crate plan, src/cells      specs/Cells                                      one-answer, here
+--   Plan's cells: crate cells         specs/Cells                                      one-answer, here
 --   write_refusal: crate refusal      lineOf, placed, specs/Line                       one-line, here
 --   is_circuit: crate circuit         circuitOk, specs/Check; 17                       one-check, crate tick, proofs/Unique
 --   tick: crate tick                  tickOf, specs/Tick; 11 to 18                     one-tick, the same
@@ -20,8 +21,13 @@
 --   forms and slots: crate wire       specs/Storage, specs/Terms                       crate wire, proofs/Unique
 --   palthengi_check, palthengi_       checkNumber, ofValidated, tell:                  one-number, one-refusal, one-told,
 --     validate, palthengi_tick          crate palthengi, specs/Refusal                   crate palthengi, proofs/Unique
+--   palthengi_compile                 tellMade, crate palthengi, specs/Compilation     one-made, the same
 --   the other C functions:            crate wirec, specs/Answers;                      one-answer, one-ending, one-layer-number, wirec, proofs/Unique;
 --     crates wirec, arenac              crate arenac, specs/Flat                         one-row (and one-form, of arena), arenac, proofs/Unique
+--   write_line, write_refused,        lineOf, refusedLine, badLine:                    one-line, here
+--     write_bad: crate listing          specs/Line
+--   outer_at: crate listing           outerAt, specs/Outer                             one-answer, here
+--   list_rows: crate listrows         rowsOf, specs/Rows                               one-run, crate listrows, proofs/Unique
 use mathlib.Core.Path.{_≡_, refl, sym, _∙_, ap}
 use mathlib.Core.Bool.{Bool, true, false, cond}
 use mathlib.Core.List.{List}
@@ -35,16 +41,15 @@ use Rattle.exact.specs.Whole.{zero32}
 use Rattle.tree.specs.Forest.{Forest, preorder, counts}
 use Rattle.tree.specs.Bytes.{Bytes, Within, bytesOf}
 use Rattle.tree.specs.Tree.{Parsed, accepted, refused, treeOf, flatOf, answerOf, kindsIn, countsIn}
-use Rattle.tree.specs.Record.{recordAt}
-use Rattle.tree.specs.Refusal.{numberOf, kindOf}
+use Rattle.record.specs.Record.{recordAt}
+use Rattle.record.specs.Refusal.{numberOf, kindOf}
 use Rattle.tree.specs.declared.flat.Flattened.{Flattened}
-use Rattle.tree.specs.declared.record.Record.{Record}
-use Rattle.tree.specs.declared.refusal.Cause.{Cause}
-use Rattle.tree.specs.declared.refusal.Cause.the-variants.{NoOpRoom, NoTermRoom, ShortRoom}
-use Rattle.tree.specs.declared.refusal.Refusal.{Refusal}
-use Rattle.refusal.specs.Line.{lineOf}
+use Rattle.record.specs.declared.record.Record.{Record}
+use Rattle.record.specs.declared.refusal.Cause.{Cause}
+use Rattle.record.specs.declared.refusal.Cause.the-variants.{NoOpRoom, NoTermRoom, ShortRoom}
+use Rattle.record.specs.declared.refusal.Refusal.{Refusal}
 use Rattle.text.specs.Text.{placed}
-use Rattle.tree.proofs.Exact.{accepts}
+use Rattle.trees.proofs.Exact.{accepts}
 use Rattle.wire.specs.declared.Counts.{Counts}
 use Rattle.wire.specs.Storage.{opSlots, termSlots}
 use Rattle.floats.specs.Floats.{floats}
@@ -155,19 +160,20 @@ pub one-flattening : (bytes kinds₀ counts₀ : List ℕ) (r r′ : Flattened) 
 one-flattening bytes kinds₀ counts₀ r r′ kinds kinds′ counts counts′ e e′ = (e .0 ∙ sym (e′ .0), e .1 ∙ sym (e′ .1), e .2 ∙ sym (e′ .2))
 
 -- a single number or record, and nothing written: `given` is the contract's right-hand side. Plan::running_cell, cursor_cell, leaf_cell,
--- leaf_status_cell and cell_count of crate plan; row_of of crate kinds; position of crate index; the eight functions of crate exact.
+-- leaf_status_cell and cell_count of crate cells; row_of of crate kinds; outer_at of crate listing; position of crate index; the eight
+-- functions of crate exact.
 pub one-answer : {A : Type 0} (given r r′ : A) → r ≡ given → r′ ≡ given → r ≡ r′
 one-answer given r r′ e e′ = e ∙ sym e′
 
--- tree::read_record
+-- record::read_record
 pub one-record : (bytes : List ℕ) (at : ℕ) (r r′ : Record) → r ≡ recordAt bytes at → r′ ≡ recordAt bytes at → r ≡ r′
 one-record bytes at = one-answer (recordAt bytes at)
 
--- tree::Cause::number
+-- record::Cause::number
 pub one-number : (c : Cause) (r r′ : ℕ) → r ≡ numberOf c → r′ ≡ numberOf c → r ≡ r′
 one-number c = one-answer (numberOf c)
 
--- tree::Cause::kind
+-- record::Cause::kind
 pub one-kind : (c : Cause) (r r′ : ℕ) → r ≡ kindOf c → r′ ≡ kindOf c → r ≡ r′
 one-kind c = one-answer (kindOf c)
 
@@ -176,7 +182,7 @@ pub one-list : (list : List ℕ → List ℕ) (given before : List ℕ) (r r′ 
     → (r′ ≡ length (list given)) × (left′ ≡ sets before 0 (list given)) → (r ≡ r′) × (left ≡ left′)
 one-list list given before r r′ left left′ e e′ = (e .0 ∙ sym (e′ .0), e .1 ∙ sym (e′ .1))
 
--- refusal::write_refusal
-pub one-line : (r : Refusal) (buffer : List ℕ) (n n′ : ℕ) (left left′ : List ℕ) → (n ≡ length (lineOf r)) × (left ≡ placed (lineOf r) buffer)
-    → (n′ ≡ length (lineOf r)) × (left′ ≡ placed (lineOf r) buffer) → (n ≡ n′) × (left ≡ left′)
-one-line r buffer n n′ left left′ e e′ = (e .0 ∙ sym (e′ .0), e .1 ∙ sym (e′ .1))
+-- refusal::write_refusal, and write_line, write_refused and write_bad of crate listing: `line` is lineOf, refusedLine and badLine
+pub one-line : (line buffer : List ℕ) (n n′ : ℕ) (left left′ : List ℕ) → (n ≡ length line) × (left ≡ placed line buffer)
+    → (n′ ≡ length line) × (left′ ≡ placed line buffer) → (n ≡ n′) × (left ≡ left′)
+one-line line buffer n n′ left left′ e e′ = (e .0 ∙ sym (e′ .0), e .1 ∙ sym (e′ .1))

@@ -8,9 +8,9 @@ use lib.Dec.{leb, ltb}
 use Rattle.tree.specs.Forest.{Forest, preorder, counts}
 use Rattle.tree.specs.Bytes.{bytesOf}
 use Rattle.tree.specs.Tree.{Parsed, accepted, treeOf}
-use Rattle.tree.specs.declared.refusal.Cause.{Cause}
-use Rattle.tree.specs.declared.refusal.Cause.the-variants.{NoOpRoom, NoTermRoom, ShortRoom}
-use Rattle.tree.proofs.Exact.{accepts}
+use Rattle.record.specs.declared.refusal.Cause.{Cause}
+use Rattle.record.specs.declared.refusal.Cause.the-variants.{NoOpRoom, NoTermRoom, ShortRoom}
+use Rattle.trees.proofs.Exact.{accepts}
 use Rattle.wire.specs.declared.Counts.{Counts}
 use Rattle.wire.specs.Storage.{opsFrom, opBiasesFrom, opSlots, termSlots}
 use Rattle.wire.proofs.Tests.{both-left, both-right}

@@ -34,7 +34,8 @@ use Rattle.compiled.specs.Compile as compile
 use Rattle.encoded.proofs.Sets.{map-at}
 use Rattle.encoded.proofs.Back as back
 use Rattle.compiles.specs.Compiles.{treeCircuit, storedOf, Slots}
-use Rattle.compiles.proofs.Nodes.{nodes-length, leaves-are, leaves-count, cursors-count, leaf-tests}
+use Rattle.tree.proofs.Lengths.{preorder-length}
+use Rattle.planned.proofs.Nodes.{leaves-are, leaves-count, cursors-count, leaf-tests}
 use Rattle.compiles.proofs.Shape.{fates-length}
 use Rattle.compiles.proofs.Images.{all-getD}
 use Rattle.compiles.proofs.Rises.{rising-below}
@@ -90,7 +91,7 @@ module _ (f : Forest ℕ) (w : limits.Within f) (l : compile.Lent) (slots : Slot
   gate-ok : gateOf s row m ≡ is.Accepted
   unfolding shapesOf
   gate-ok =
-      let nodes = nodes-length f in
+      let nodes = preorder-length f in
       let a = eq-eqb (length row) (n .leaves) (valid .long ∙ sym leaves-same) in
       let b = eq-eqb (length (m .flags)) (n .nodes) (ready .flags-long ∙ sym nodes) in
       let c = eq-eqb (length (m .cursors)) (n .cursors) (ready .cursors-long ∙ sym cursors-same) in
@@ -108,7 +109,7 @@ module _ (f : Forest ℕ) (w : limits.Within f) (l : compile.Lent) (slots : Slot
   -- ---- 18
 
   pub fate-count : length xs ≡ n .nodes
-  fate-count = fates-length f (m .flags) (m .cursors) row ∙ sym (nodes-length f)
+  fate-count = fates-length f (m .flags) (m .cursors) row ∙ sym (preorder-length f)
 
   resume-count : length cs ≡ n .cursors
   unfolding walk answerOf
@@ -148,7 +149,7 @@ module _ (f : Forest ℕ) (w : limits.Within f) (l : compile.Lent) (slots : Slot
   written-same : written n (s .nums) (numbers (valuesOf xs)) (computed m table) ≡ walked s f row m
   unfolding written walked walk answerOf
   written-same =
-      let e1 = flags-are xs cs (n .nodes) (n .cursors) fate-count resume-count (m .flags) (ready .flags-long ∙ sym (nodes-length f)) in
+      let e1 = flags-are xs cs (n .nodes) (n .cursors) fate-count resume-count (m .flags) (ready .flags-long ∙ sym (preorder-length f)) in
       let e2 = cursors-are xs cs (n .nodes) (n .cursors) fate-count resume-count (m .cursors) (ready .cursors-long ∙ sym cursors-same) resumes-low in
       let e3 = statuses-are xs cs (n .nodes) (n .cursors) fate-count resume-count (m .statuses) in
       let e4 = halts-are xs cs (n .nodes) (n .cursors) fate-count resume-count (m .halts) in

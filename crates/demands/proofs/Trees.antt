@@ -10,8 +10,8 @@ use lib.ListN.{length, length-map}
 use Rattle.tree.specs.Forest.{Forest, preorder, counts}
 use Rattle.tree.specs.Bytes.{Bytes, Within, bytesOf}
 use Rattle.tree.specs.Tree.{Parsed, accepted, refused, treeOf}
-use Rattle.tree.specs.declared.refusal.Cause.the-variants.{NoOpRoom, NoTermRoom, ShortRoom}
-use Rattle.tree.proofs.Exact.{accepts, accepted-tree}
+use Rattle.record.specs.declared.refusal.Cause.the-variants.{NoOpRoom, NoTermRoom, ShortRoom}
+use Rattle.trees.proofs.Exact.{accepts, accepted-tree}
 use Rattle.wire.specs.declared.Counts.{Counts}
 use Rattle.wire.specs.Terms.{Affine}
 use Rattle.wire.specs.Storage.{opSlots, termSlots}

@@ -1,5 +1,5 @@
 // reach: from the first node to the last, whether each is ticked or halted. A node that asks for what is not there lowers the flag.
-use arena::Room;
+use fits::Room;
 use reach::Down;
 use table::Builder;
 ghost use mathlib.Core.Path.{_≡_};

@@ -10,8 +10,8 @@ use Rattle.wire.specs.Terms.{part, termAt, termsOf}
 use Rattle.wire.specs.Storage.{outputsFrom, opsFrom, opBiasesFrom, regluKind}
 use Rattle.wire.proofs.Entries.{each-length}
 use Rattle.wire.proofs.Parts.{part-step, part-end}
-use Rattle.arena.specs.Steps.{Put}
-use Rattle.arena.proofs.Put.{put-nil, put-then}
+use Rattle.sums.specs.Steps.{Put}
+use Rattle.sums.proofs.Put.{put-nil, put-then}
 use Rattle.table.specs.Work.{Mem, loaded}
 use Rattle.table.specs.Work as T
 use Rattle.emit.specs.Emit.{outputSlot, opLens, outputLens, outputsMany, Image, image, formIn, opIn, opsIn, outputsIn, emitIn, Inside, OpsInside, OutputsInside}

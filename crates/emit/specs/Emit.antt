@@ -10,7 +10,7 @@ use lib.Ieee.{Float}
 use Rattle.wire.specs.declared.Form.{Form}
 use Rattle.wire.specs.Terms.{termsOf}
 use Rattle.wire.specs.Storage as S
-use Rattle.arena.specs.Arena.{wiresIn, coefsIn}
+use Rattle.sums.specs.Steps.{wiresIn, coefsIn}
 use Rattle.table.specs.Work.{Mem, loaded, opsFrom}
 use Rattle.arbitrate.specs.Arbitrate.{rawS, rawF, rawR}
 use Rattle.reach.specs.Reach.{cursorFrom, reachedFrom, haltedFrom, runningFrom}

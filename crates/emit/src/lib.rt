@@ -8,7 +8,7 @@ ghost use mathlib.Core.Path.{_≡_};
 ghost use Prim.Native.Nat.{_+_, _*_, _≤_, _<_};
 ghost use lib.ListN.{length};
 ghost use Rattle.wire.specs.Terms.{termsOf};
-ghost use Rattle.arena.specs.Steps.{Put};
+ghost use Rattle.sums.specs.Steps.{Put};
 ghost use Rattle.table.specs.Work.{Whole, slotsMost, opsMost, mem};
 ghost use Rattle.emit.specs.Emit.{rowOf, outputSlot, opLens, outputLens, outputsMany, allLens, image, formIn, opIn, opsIn, outputsIn, emitIn, Inside, Fits, OpsInside, OutputsInside, Holds};
 

@@ -6,8 +6,8 @@ use mathlib.Core.List.{List, [], _∷_, _++_}
 use lib.ListN.{length}
 use Rattle.wire.specs.declared.Form.{Form}
 use Rattle.wire.specs.Terms.{Affine}
-use Rattle.arena.specs.Holds.{Is}
-use Rattle.arena.proofs.Holds.{is-length}
+use Rattle.holds.specs.Holds.{Is}
+use Rattle.holds.proofs.Holds.{is-length}
 use Rattle.floats.specs.Floats.{floats}
 use Rattle.construct.specs.Builder.{Op}
 use Rattle.construct.specs.Circuit.{opForms, termsIn}

@@ -12,8 +12,8 @@ use Rattle.wire.specs.declared.Term.{Term}
 use Rattle.wire.specs.Terms.{Affine}
 use Rattle.wire.specs.Storage.{outputsFrom, opBiasesFrom}
 use Rattle.wire.specs.Storage as S
-use Rattle.arena.specs.Arena.{wiresIn, coefsIn}
-use Rattle.arena.proofs.Put.{put-then}
+use Rattle.sums.specs.Steps.{wiresIn, coefsIn}
+use Rattle.sums.proofs.Put.{put-then}
 use Rattle.floats.specs.Floats.{floats}
 use Rattle.construct.specs.Builder.{Op}
 use Rattle.construct.specs.Circuit.{Circuit, Output, opForms, outputForms, formsOf, opCount, termCount}

@@ -12,11 +12,10 @@ use Rattle.wire.specs.declared.Term.{Term}
 use Rattle.wire.specs.Terms.{Affine}
 use Rattle.wire.specs.Storage.{outputsFrom, opBiasesFrom, regluKind}
 use Rattle.wire.specs.Storage as S
-use Rattle.arena.specs.Arena.{wiresIn, coefsIn}
-use Rattle.arena.specs.Steps.{Put}
-use Rattle.arena.specs.Holds.{Is}
-use Rattle.arena.proofs.Put.{put-nil, put-then}
-use Rattle.arena.proofs.Holds.{is-length}
+use Rattle.sums.specs.Steps.{wiresIn, coefsIn, Put}
+use Rattle.holds.specs.Holds.{Is}
+use Rattle.sums.proofs.Put.{put-nil, put-then}
+use Rattle.holds.proofs.Holds.{is-length}
 use Rattle.construct.specs.Builder.{Op}
 use Rattle.construct.specs.Circuit.{opForms}
 use Rattle.compiled.specs.Encode.{size, termsOfAll, ranges, opNums, biasesOf}

@@ -3,7 +3,7 @@ use Prim.Native.Nat.{ℕ, suc, _+_}
 use mathlib.Core.Path.{_≡_}
 use mathlib.Core.List.{List, [], _∷_, reverse}
 use Rattle.wire.specs.Terms.{Affine}
-use Rattle.arena.specs.Holds.{Is}
+use Rattle.holds.specs.Holds.{Is}
 use Rattle.construct.specs.Builder.{Op}
 use Rattle.construct.specs.Circuit.{Circuit, Output}
 use Rattle.table.specs.Work.{Mem, loaded}

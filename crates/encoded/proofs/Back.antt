@@ -14,7 +14,7 @@ use Rattle.wire.specs.Each.{each}
 use Rattle.wire.specs.Terms.{Affine, termAt, part, termsOf, meaning}
 use Rattle.wire.specs.Storage as W
 use Rattle.wire.proofs.Stored.{circuit-is}
-use Rattle.arena.specs.Arena.{wiresIn, coefsIn}
+use Rattle.sums.specs.Steps.{wiresIn, coefsIn}
 use Rattle.construct.specs.Circuit.{Circuit, opForms, formsOf}
 use Rattle.compiled.specs.Encode.{size, outputsIn, termsOfAll, ranges, opNums, biasesOf, Lists, listNums, numsOf, biasesIn, wiresOf, coefsOf}
 use Rattle.encoded.specs.Encoded.{opIn, meant, Fits}

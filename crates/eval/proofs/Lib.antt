@@ -1,3 +1,3 @@
-pub mod Reading
+pub mod Valuing
 pub mod Running
 pub mod Unique

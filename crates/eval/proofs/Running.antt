@@ -14,10 +14,11 @@ use Rattle.wire.specs.declared.Counts.{Counts}
 use Rattle.wire.specs.declared.Op.{Op}
 use Rattle.wire.specs.Storage.{opAt}
 use Rattle.pool.specs.Values.{tableAfter, OpReadable}
+use Rattle.reading.specs.Reading.{storedOp, opReads}
+use Rattle.reading.proofs.Reading.{may-read-op}
 use Rattle.eval.specs.declared.Evaluated.{Evaluated}
 use Rattle.eval.specs.declared.Evaluated.the-variants as run
-use Rattle.eval.specs.Evaluation.{storedOp, opReads, firstFalse, firstBad, evaluated, tableLeft}
-use Rattle.eval.proofs.Reading.{may-read-op}
+use Rattle.eval.specs.Evaluation.{firstFalse, firstBad, evaluated, tableLeft}
 
 module _ (p : ℕ → Bool) where
   go-on : (i n : ℕ) → p i ≡ true → firstFalse p i (suc n) ≡ firstFalse p (suc i) n

@@ -1,7 +1,6 @@
 -- Any two answers that a contract of this crate permits coincide, with all that they leave. Floats are those of lib.Ieee, which has one NaN. Assumes nothing.
 use mathlib.Core.Path.{_≡_, sym, _∙_}
 use mathlib.Core.List.{List}
-use mathlib.Core.Bool.{Bool}
 use Prim.Native.Nat.{ℕ}
 use lib.ListN.{length}
 use lib.Ieee.{Float}
@@ -10,11 +9,7 @@ use Rattle.wire.specs.declared.Counts.{Counts}
 use Rattle.wire.specs.declared.Op.{Op}
 use Rattle.eval.specs.declared.Valued.{Valued}
 use Rattle.eval.specs.declared.Evaluated.{Evaluated}
-use Rattle.eval.specs.Evaluation.{readable, valueOf, opValueOf, storedOp, opReads, evaluated, tableLeft}
-
--- is_readable
-pub one-readable : (wires : List ℕ) (coefs : List Float) (n : ℕ) (f : Form) (r r′ : Bool) → r ≡ readable wires coefs n f → r′ ≡ readable wires coefs n f → r ≡ r′
-one-readable wires coefs n f r r′ e e′ = e ∙ sym e′
+use Rattle.eval.specs.Evaluation.{valueOf, opValueOf, evaluated, tableLeft}
 
 -- value
 pub one-value : (wires : List ℕ) (coefs table : List Float) (f : Form) (r r′ : Valued) → r ≡ valueOf wires coefs table f → r′ ≡ valueOf wires coefs table f → r ≡ r′
@@ -23,14 +18,6 @@ one-value wires coefs table f r r′ e e′ = e ∙ sym e′
 -- op_value
 pub one-op-value : (wires : List ℕ) (coefs table : List Float) (op : Op) (r r′ : Valued) → r ≡ opValueOf wires coefs table op → r′ ≡ opValueOf wires coefs table op → r ≡ r′
 one-op-value wires coefs table op r r′ e e′ = e ∙ sym e′
-
--- op_at
-pub one-op : (nums : List ℕ) (biases : List Float) (i : ℕ) (r r′ : Op) → r ≡ storedOp nums biases i → r′ ≡ storedOp nums biases i → r ≡ r′
-one-op nums biases i r r′ e e′ = e ∙ sym e′
-
--- op_is_readable
-pub one-op-readable : (wires : List ℕ) (coefs : List Float) (n : ℕ) (op : Op) (r r′ : Bool) → r ≡ opReads wires coefs n op → r′ ≡ opReads wires coefs n op → r ≡ r′
-one-op-readable wires coefs n op r r′ e e′ = e ∙ sym e′
 
 -- evaluate: what it answers and what it leaves
 pub one-evaluation : (n : Counts) (nums : List ℕ) (biases : List Float) (wires : List ℕ) (coefs table : List Float) (r r′ : Evaluated) (left left′ : List Float)

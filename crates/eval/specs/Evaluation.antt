@@ -1,19 +1,19 @@
--- What evaluation answers, and what it leaves in the table, for any storage. Document 01, "Cells and forms"; "Rust panics on a short table; here 14".
+-- What evaluation answers, and what it leaves in the table, for any storage. Document 01, "Cells and forms"; "Rust panics on a short table; here 14". Definitions only.
 use Prim.Native.Nat.{ℕ, zero, suc, _+_}
 use mathlib.Core.List.{List}
-use mathlib.Core.Bool.{Bool, true, false, cond, _&&_}
-use lib.ListN.{length, getD}
-use lib.Dec.{leb, ltb, eqb}
+use mathlib.Core.Bool.{Bool, true, false, cond}
+use lib.ListN.{length}
+use lib.Dec.{leb, ltb}
 use lib.Ieee.{Float, binary32, mul}
 use Rattle.exact.specs.Tests.{relu}
 use Rattle.wire.specs.declared.Form.{Form}
 use Rattle.wire.specs.declared.Counts.{Counts}
 use Rattle.wire.specs.declared.Op.{Op}
 use Rattle.wire.specs.declared.Op.the-variants.{Affine, Reglu, Neither}
-use Rattle.wire.specs.All.{all}
 use Rattle.wire.specs.Terms.{meaning, valueIn}
-use Rattle.wire.specs.Storage.{opSlots, affineKind, regluKind, kindAt, leftForm, gateForm, opAt}
+use Rattle.wire.specs.Storage.{opAt}
 use Rattle.pool.specs.Values.{tableAfter}
+use Rattle.reading.specs.Reading.{readable, storedOp, opReads}
 use Rattle.eval.specs.declared.Valued.{Valued}
 use Rattle.eval.specs.declared.Valued.the-variants.{Value}
 use Rattle.eval.specs.declared.Valued.the-variants as valued
@@ -34,30 +34,11 @@ evaluatedNumber (run.BadOp i) = 17
 
 -- ---- a form
 
--- wire k of a form that starts at first is below n
-unfoldable pub readsBelow : List ℕ → ℕ → ℕ → ℕ → Bool
-readsBelow wires n first k = ltb (getD wires (first + k) 0) n
-
--- a form lies in both pools and reads only values below n
-unfoldable pub readable : List ℕ → List Float → ℕ → Form → Bool
-unfolding all readsBelow
-readable wires coefs n f =
-    leb (f .first + f .len) (length wires) && (leb (f .first + f .len) (length coefs) && all (readsBelow wires n (f .first)) (f .len))
-
 unfoldable pub valueOf : List ℕ → List Float → List Float → Form → Valued
 unfolding readable
 valueOf wires coefs table f = cond (readable wires coefs (length table) f) (Value (valueIn table (meaning wires coefs f))) valued.Short
 
 -- ---- an op
-
--- op i in storage, of neither kind where there is no such slot
-unfoldable pub storedOp : List ℕ → List Float → ℕ → Op
-storedOp nums biases i =
-    cond (ltb i (opSlots (length nums) (length biases)))
-    (cond (eqb (kindAt nums i) affineKind)
-    (Affine (leftForm nums biases i))
-    (cond (eqb (kindAt nums i) regluKind) (Reglu (leftForm nums biases i) (gateForm nums biases i)) Neither))
-    Neither
 
 -- left times max(0, gate), where both have values
 unfoldable pub gated : Valued → Valued → Valued
@@ -72,13 +53,6 @@ unfolding valueOf gated
 opValueOf wires coefs table (Affine form) = valueOf wires coefs table form
 opValueOf wires coefs table (Reglu left gate) = gated (valueOf wires coefs table left) (valueOf wires coefs table gate)
 opValueOf wires coefs table Neither = valued.BadOp
-
--- an op is of one of the two kinds, and its forms read only values below n
-unfoldable pub opReads : List ℕ → List Float → ℕ → Op → Bool
-unfolding readable
-opReads wires coefs n (Affine form) = readable wires coefs n form
-opReads wires coefs n (Reglu left gate) = readable wires coefs n left && readable wires coefs n gate
-opReads wires coefs n Neither = false
 
 -- ---- all ops
 

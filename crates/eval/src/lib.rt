@@ -1,14 +1,11 @@
 // The value of a form, of an op and of all ops, for any storage and any table: wire.rs's evaluation, with an answer where the Rust panics.
-use index::Wire;
-use wire::Biases;
 use wire::Counts;
 use wire::Form;
-use wire::Nums;
 use wire::Op;
 ghost use mathlib.Core.Path.{_≡_};
 ghost use Prim.Native.Nat.{_+_, _<_};
 ghost use lib.ListN.{length};
-ghost use Rattle.eval.specs.Evaluation.{readable, opReads, storedOp, valueOf, opValueOf, firstBad, evaluated, tableLeft};
+ghost use Rattle.eval.specs.Evaluation.{valueOf, opValueOf, firstBad, evaluated, tableLeft};
 
 // The value asked for, or why there is none.
 pub enum Valued {
@@ -28,37 +25,11 @@ pub enum Evaluated {
     BadOp(usize),
 }
 
-// Whether a form lies in both pools and reads only values below n.
-pub fn is_readable(f: Form, wires: &[u32], coefs: &[f32], n: usize) -> bool
-    ensures { λ r. ⌜ r ≡ readable (now (wires .entry)) (now (coefs .entry)) n f ⌝ }
-{
-    let first = f.first;
-    let len = f.len;
-    if wires.len() < first {
-        return false;
-    }
-    if wires.len() - first < len {
-        return false;
-    }
-    if coefs.len() < first + len {
-        return false;
-    }
-    let mut i = 0usize;
-    while i < len {
-        let wire = wires[first + i];
-        if n <= Wire(wire).position() {
-            return false;
-        }
-        i += 1;
-    }
-    true
-}
-
 // A form's value against a table.
 pub fn value(f: Form, wires: &[u32], coefs: &[f32], table: &[f32]) -> Valued
     ensures { λ r. ⌜ r ≡ valueOf (now (wires .entry)) (now (coefs .entry)) (now (table .entry)) f ⌝ }
 {
-    if is_readable(f, wires, coefs, table.len()) {
+    if reading::is_readable(f, wires, coefs, table.len()) {
         return Valued::Value(pool::sum(f, wires, coefs, table));
     }
     Valued::Short
@@ -85,43 +56,6 @@ pub fn op_value(op: Op, wires: &[u32], coefs: &[f32], table: &[f32]) -> Valued
     }
 }
 
-// Op i of a circuit.
-pub fn op_at(nums: &[u32], biases: &[f32], i: usize) -> Op
-    ensures { λ r. ⌜ r ≡ storedOp (now (nums .entry)) (now (biases .entry)) i ⌝ }
-{
-    if wire::op_slots(nums.len(), biases.len()) <= i {
-        return Op::Neither;
-    }
-    let at = Nums::OPS + Nums::PER_OP * i;
-    let bias = Biases::OPS + Biases::PER_OP * i;
-    let kind = nums[at];
-    if kind == Op::AFFINE {
-        return Op::Affine(pool::form_at(nums, biases, at + 1, bias));
-    }
-    if kind == Op::REGLU {
-        let left = pool::form_at(nums, biases, at + 1, bias);
-        let gate = pool::form_at(nums, biases, at + 3, bias + 1);
-        return Op::Reglu { left, gate };
-    }
-    Op::Neither
-}
-
-// Whether an op is of one of the two kinds, and its forms are readable.
-pub fn op_is_readable(op: Op, wires: &[u32], coefs: &[f32], n: usize) -> bool
-    ensures { λ r. ⌜ r ≡ opReads (now (wires .entry)) (now (coefs .entry)) n op ⌝ }
-{
-    match op {
-        Op::Affine(form) => is_readable(form, wires, coefs, n),
-        Op::Reglu { left, gate } => {
-            if !is_readable(left, wires, coefs, n) {
-                return false;
-            }
-            is_readable(gate, wires, coefs, n)
-        }
-        Op::Neither => false,
-    }
-}
-
 // The first op that cannot be valued, or the number of ops where each can.
 fn first_bad(
     nums: &[u32],
@@ -136,8 +70,8 @@ fn first_bad(
 {
     let mut i = 0usize;
     while i < ops {
-        let op = op_at(nums, biases, i);
-        if !op_is_readable(op, wires, coefs, cells + i) {
+        let op = reading::op_at(nums, biases, i);
+        if !reading::op_is_readable(op, wires, coefs, cells + i) {
             return i;
         }
         i += 1;

@@ -29,7 +29,7 @@ module _ (base : ℕ) (row : List ℕ) (xs : List Float) where
   pub leaves-end : (i n : ℕ) {cur : List Float} → cur ≡ leavesAt base row xs i → i ≤ n → n ≤ i → cur ≡ leavesAt base row xs n
   leaves-end i n e h k = let q : i ≡ n = omega arith in e ∙ ap (leavesAt base row xs) q
 
-  leaves-length : (n : ℕ) → length (leavesAt base row xs n) ≡ length xs
+  pub leaves-length : (n : ℕ) → length (leavesAt base row xs n) ≡ length xs
   unfolding leavesAt
   leaves-length zero = refl
   leaves-length (suc n) = simp length-set (leaves-length n)

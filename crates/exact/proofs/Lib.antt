@@ -2,4 +2,3 @@ pub mod Whole
 pub mod Tests
 pub mod Small
 pub mod Cursor
-pub mod Dot

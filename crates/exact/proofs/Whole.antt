@@ -13,7 +13,7 @@ use lib.Ieee.Exact.{HasValue}
 use lib.Ieee.Back.{round-whole, whole-unique, unsigned-back}
 use lib.Ieee.Scale.{round-same}
 use borrow.Author.Tests.{lt-ltb, le-ltb}
-use Rattle.exact.specs.Whole.{dist, diff, Within, zero32, one32, minusOne32, cursorMost32, sizeMost32}
+use Rattle.exact.specs.Whole.{dist, diff, Within, zero32, one32, minusOne32, cursorMost32}
 
 -- the sign s and the size n are those of p - q, with either sign at 0
 abbrev pub Worth : Bool → ℕ → ℕ → ℕ → Type 0
@@ -304,16 +304,6 @@ pub diff-back : (f : Format) (w n : ℕ) → n ≤ 2 ^ prec f → n < 2 ^ w → 
 unfolding inFloat
 diff-back f w n h k = subst (λ (x : Float). T (inUnsigned f w x) × (toUnsigned w x ≡ n)) (ofNat-diff f n) (unsigned-back f w n (le→leb n (2 ^ prec f) h) k)
 
--- ---- short forms, for naturals and for a signed coefficient times a natural
-pub mul-nat : (f : Format) (a b : ℕ) → a ≤ 2 ^ prec f → b ≤ 2 ^ prec f → mul f (diff f a 0) (diff f b 0) ≡ diff f (a * b) 0
-mul-nat f a b h k = mul-diff f a 0 b 0 (omega arith) (omega arith) (omega arith) (omega arith) ∙ diff-same f (a * b + 0 * 0) (a * 0 + 0 * b) (a * b) 0 (omega arith)
-
-pub add-mul-nat : (f : Format) (p q r u n : ℕ) → Within f p q → Within f r u → n ≤ 2 ^ prec f → Within f (r * n) (u * n)
-    → add f (diff f p q) (mul f (diff f r u) (diff f n 0)) ≡ diff f (p + r * n) (q + u * n)
-add-mul-nat f p q r u n h k l b =
-    add-mul-diff f p q r u n 0 h k (omega arith) (omega arith)
-    ∙ diff-same f (p + (r * n + u * 0)) (q + (r * 0 + u * n)) (p + r * n) (q + u * n) (omega arith)
-
 -- ---- the literals
 
 pub zero-is : zero32 ≡ diff binary32 0 0
@@ -331,7 +321,3 @@ minus-one-is = refl
 pub cursor-most-is : cursorMost32 ≡ diff binary32 65535 0
 unfolding diff round ofBits
 cursor-most-is = refl
-
-pub size-most-is : sizeMost32 ≡ diff binary32 65536 0
-unfolding diff round ofBits
-size-most-is = refl

@@ -1,3 +1,2 @@
 pub mod Whole
 pub mod Tests
-pub mod Dot

@@ -16,7 +16,7 @@ diff f p q = round f (ltb p q) (dist p q) 1
 abbrev pub Within : Format → ℕ → ℕ → Type 0
 Within f p q = (p ≤ q + 2 ^ prec f) × (q ≤ p + 2 ^ prec f)
 
--- ---- the literals 0.0, 1.0, -1.0, 65535.0 and 65536.0, as the code has them
+-- ---- the literals 0.0, 1.0, -1.0 and 65535.0, as the code has them
 
 abbrev pub zero32 : Float
 zero32 = ofBits binary32 0
@@ -30,7 +30,3 @@ minusOne32 = neg one32
 -- the most that a cursor is read as
 abbrev pub cursorMost32 : Float
 cursorMost32 = ofBits binary32 0x477f_ff00
-
--- the most that a coefficient or a bias is in size
-abbrev pub sizeMost32 : Float
-sizeMost32 = ofBits binary32 0x4780_0000

@@ -13,7 +13,7 @@ use Rattle.exact.specs.Whole.{diff, Within, minusOne32}
 use Rattle.exact.proofs.Whole.{add-diff, sub-diff, mul-add-diff, diff-same, le-diff, zero-is, one-is, minus-one-is}
 use Rattle.wire.specs.declared.Term.{Term as FloatTerm}
 use Rattle.wire.specs.Terms.{Affine}
-use Rattle.arena.specs.Sums as S
+use Rattle.sums.specs.Sums as S
 use Rattle.floats.specs.Floats.{number, difference, floats, known as knownF, knownAt as knownAtF, empty as emptyF}
 use Rattle.construct.specs.Scope.{Within as Rising}
 use Rattle.construct.specs.Pairs.{Term, Form, constant, wire′, plus, negate, flip, scaled, times, offset, known, knownAt, empty, len}

@@ -12,7 +12,7 @@ use lib.Ieee.{binary32, add, eq}
 use Rattle.exact.specs.Whole.{diff, Within, zero32}
 use Rattle.exact.proofs.Whole.{add-diff, eq-diff, zero-is}
 use Rattle.wire.specs.declared.Term.{Term as FloatTerm}
-use Rattle.arena.specs.Sums.{kept, mergeInto, merge as mergeF, summed as summedF}
+use Rattle.sums.specs.Sums.{kept, mergeInto, merge as mergeF, summed as summedF}
 use Rattle.construct.specs.Pairs.{Term, summed, keep, insertAt, insert, merge}
 use Rattle.construct.specs.Scope.{Within as Rising}
 use Rattle.sizes.specs.Exact.{Coefs}

@@ -27,13 +27,13 @@ module _ {A : Type 0} (base : ℕ) (f : ℕ → A) (xs : List A) where
   fill-length zero = refl
   fill-length (suc n) = length-set (fillAt base f xs n) (base + n) (f n) ∙ fill-length n
 
-module _ {A : Type 0} (f : ℕ → A) (xs : List A) (d : A) where
-  snoc : (n : ℕ) → each f 0 n ++ (f n ∷ []) ≡ each f 0 (suc n)
-  unfolding each
-  snoc n =
-      let q : n ≡ 0 + n = omega arith in
-      ap (λ (k : ℕ). each f 0 n ++ (f k ∷ [])) q ∙ sym (each-append f 0 n 1) ∙ ap (each f 0) (add-one n)
+pub snoc : {A : Type 0} (f : ℕ → A) (n : ℕ) → each f 0 n ++ (f n ∷ []) ≡ each f 0 (suc n)
+unfolding each
+snoc f n =
+    let q : n ≡ 0 + n = omega arith in
+    ap (λ (k : ℕ). each f 0 n ++ (f k ∷ [])) q ∙ sym (each-append f 0 n 1) ∙ ap (each f 0) (add-one n)
 
+module _ {A : Type 0} (f : ℕ → A) (xs : List A) (d : A) where
   pub fill-prefix : (n : ℕ) → n ≤ length xs → fillAt 0 f xs n ≡ prefix f n xs
   unfolding fillAt prefix
   fill-prefix zero h = refl
@@ -41,7 +41,7 @@ module _ {A : Type 0} (f : ℕ → A) (xs : List A) (d : A) where
       let q : n ≡ 0 + n = omega arith in
       ap (λ (l : List A). set l (0 + n) (f n)) (fill-prefix n (omega arith) ∙ ap (λ (l : List A). each f 0 n ++ l) (drop-cons xs n d h))
       ∙ set-at (each f 0 n) (getD xs n d) (drop (suc n) xs) (f n) (0 + n) (each-length f 0 n ∙ q) ∙ sym (append-assoc (each f 0 n) (f n ∷ []) (drop (suc n) xs))
-      ∙ ap (λ (l : List A). l ++ drop (suc n) xs) (snoc n)
+      ∙ ap (λ (l : List A). l ++ drop (suc n) xs) (snoc f n)
 
   -- the part that is written is what was to be written
   pub take-prefix : (n : ℕ) → take n (prefix f n xs) ≡ each f 0 n

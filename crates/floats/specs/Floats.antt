@@ -8,7 +8,7 @@ use lib.Ieee.{Float, binary32, sub, eq, le}
 use Rattle.exact.specs.Whole.{diff, zero32, minusOne32}
 use Rattle.wire.specs.declared.Term.{Term}
 use Rattle.wire.specs.Terms.{Affine}
-use Rattle.arena.specs.Sums.{constant, single, offset, scaled, plus}
+use Rattle.sums.specs.Sums.{constant, single, offset, scaled, plus}
 use Rattle.construct.specs.Forms.{Known, No, Yes, Open, Forms}
 
 -- the float of a natural number, as a cast gives it

@@ -10,7 +10,7 @@ use Rattle.wire.specs.declared.Counts.{Counts}
 use Rattle.wire.specs.declared.Op.{Op}
 use Rattle.wire.specs.declared.Op.the-variants.{Affine, Reglu, Neither}
 use Rattle.wire.specs.Terms.{lookUp}
-use Rattle.eval.specs.Evaluation.{storedOp}
+use Rattle.reading.specs.Reading.{storedOp}
 use Rattle.layers.specs.declared.Layered.{Layered}
 use Rattle.layers.specs.declared.Layered.the-variants.{Done, Short}
 

@@ -121,7 +121,7 @@ pub fn layers(
     clear(out, values);
     let mut i = 0usize;
     while i < ops {
-        let op = eval::op_at(nums, biases, i);
+        let op = reading::op_at(nums, biases, i);
         let layer = one_past(op_depth(op, wires, out, values));
         out[cells + i] = layer;
         i += 1;

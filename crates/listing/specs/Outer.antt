@@ -4,7 +4,7 @@ use mathlib.Core.Bool.{cond}
 use mathlib.Core.List.{List}
 use lib.Dec.{ltb}
 use lib.ListN.{length}
-use Rattle.tree.specs.Record.{u16At}
+use Rattle.record.specs.Record.{u16At}
 use Rattle.listing.specs.declared.outer.Outer.{Outer}
 use Rattle.listing.specs.declared.outer.Outer.the-variants.{Whole, Cut, Bad}
 

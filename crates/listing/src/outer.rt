@@ -2,7 +2,7 @@
 ghost use mathlib.Core.Path.{_≡_};
 ghost use Prim.Native.Nat.{_+_, _<_};
 ghost use lib.ListN.{length};
-ghost use Rattle.tree.specs.Record.{u16At};
+ghost use Rattle.record.specs.Record.{u16At};
 ghost use Rattle.listing.specs.Outer.{outerAt};
 
 // What stands at a position: a whole record, or the front of one whose other bytes may still come, or one whose length is below 2.

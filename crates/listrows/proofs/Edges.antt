@@ -1,12 +1,11 @@
 -- What is left to list, a step further on. Assumes nothing.
-use mathlib.Core.Path.{_≡_, refl, sym, _∙_, ap, subst}
-use mathlib.Core.Bool.{Bool, true, false, not}
-use mathlib.Core.List.{List, [], _∷_, _++_, append-assoc}
-use Prim.Native.Nat.{ℕ, zero, suc, _+_, _-_, _≤_, _<_}
+use mathlib.Core.Path.{_≡_, refl, _∙_, ap}
+use mathlib.Core.Bool.{Bool, true, false, false≢true}
+use mathlib.Core.List.{List, [], _∷_, _++_}
+use Prim.Native.Nat.{ℕ, zero, suc, _+_, _≤_}
 use native.Mathlib.Omega.{arith}
-use lib.Dec.{eqb}
-use lib.ListN.{length, take, drop, length-append, length-drop}
-use lib.Seq.{drop-append-le, drop-drop}
+use lib.ListN.{length, drop, length-append, length-drop}
+use lib.Seq.{drop-append-le}
 use Rattle.circuit.specs.Check.{Stored}
 use Rattle.listing.specs.declared.outer.Outer.{Outer}
 use Rattle.listing.specs.declared.outer.Outer.the-variants.{Whole, Cut, Bad}
@@ -17,23 +16,16 @@ use Rattle.listrows.specs.Listing.{restFrom, restOf}
 use Rattle.listrows.proofs.Grown.{NotCut, step-grows}
 use Rattle.listrows.proofs.Turns.{modest}
 
-pub append-none : (l : List ℕ) → l ++ [] ≡ l
-append-none [] = refl
-append-none (x ∷ xs) = ap (λ (t : List ℕ). x ∷ t) (append-none xs)
-
-pub never : false ≡ true → ⊥
-never e = let z : _≡_ {A = ℕ} 0 1 = cc in omega arith
-
 goes-not-cut : (s : Stored) (a : List ℕ) (number : ℕ) (k : Kept) (p : Outer) → stepAt p s a number k .goes ≡ true → NotCut p
 unfolding stepAt
 goes-not-cut s a number k (Whole kind start end) e = tt
-goes-not-cut s a number k Cut e = never e
+goes-not-cut s a number k Cut e = false≢true e
 goes-not-cut s a number k Bad e = tt
 
 ended-not-cut : (s : Stored) (a : List ℕ) (number : ℕ) (k : Kept) (p : Outer) → stepAt p s a number k .ended ≡ true → NotCut p
 unfolding stepAt
 ended-not-cut s a number k (Whole kind start end) e = tt
-ended-not-cut s a number k Cut e = never e
+ended-not-cut s a number k Cut e = false≢true e
 ended-not-cut s a number k Bad e = tt
 
 -- what is printed from a step on, with so much fuel

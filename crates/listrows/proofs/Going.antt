@@ -1,8 +1,8 @@
 -- The loop over rows: what is printed so far, and that the rest is still to come. Assumes nothing.
 use mathlib.Core.Path.{_≡_, refl, sym, _∙_, ap, subst}
 use mathlib.Core.Bool.{Bool, true, false}
-use mathlib.Core.List.{List, [], _∷_, _++_, append-assoc}
-use Prim.Native.Nat.{ℕ, zero, suc, _+_, _-_, _≤_, _<_}
+use mathlib.Core.List.{List, [], _++_, append-assoc}
+use Prim.Native.Nat.{ℕ, suc, _+_, _-_, _≤_, _<_}
 use native.Mathlib.Omega.{arith}
 use borrow.Author.Tests.{le-leb}
 use lib.ListN.{length, take, drop, length-append, length-drop, take-append-drop}
@@ -10,9 +10,9 @@ use lib.Seq.{drop-at, take-at, drop-drop}
 use Rattle.text.specs.Text.{placed}
 use Rattle.circuit.specs.Check.{Stored}
 use Rattle.listing.specs.Line.{lineRoom}
-use Rattle.listrows.specs.Rows.{Kept, Step, Run, stepOf, stopped, rowsFrom, rowsOf}
+use Rattle.listrows.specs.Rows.{Kept, Run, stepOf, rowsFrom, rowsOf}
 use Rattle.listrows.specs.Left.{StepLeft, RunLeft}
-use Rattle.listrows.proofs.Turns.{Modest, modest, turn-full, turn-goes, turn-stops}
+use Rattle.listrows.proofs.Turns.{modest, turn-full, turn-goes, turn-stops}
 
 pub record Going (s : Stored) (bytes out : List ℕ) (from number : ℕ) (k : Kept) (now : List ℕ) (at done tick : ℕ) (k′ : Kept) : Type 0 where
   pub fuel : ℕ

@@ -1,20 +1,20 @@
 -- A record that stands whole in some bytes, or is bad, is the same where more bytes follow. Assumes nothing.
-use mathlib.Core.Path.{_≡_, refl, sym, _∙_, ap, subst}
+use mathlib.Core.Path.{_≡_, refl, _∙_, ap}
 use mathlib.Core.Bool.{Bool, true, false, cond}
-use mathlib.Core.List.{List, [], _∷_, _++_}
-use Prim.Native.Nat.{ℕ, zero, suc, _+_, _*_, _-_, _≤_, _<_}
+use mathlib.Core.List.{List, _++_}
+use Prim.Native.Nat.{ℕ, _+_, _*_, _-_, _≤_, _<_}
 use native.Mathlib.Omega.{arith}
 use borrow.Author.Tests.{le-ltb, ltb-false}
 use lib.Dec.{eqb, ltb}
-use lib.ListN.{length, take, drop, getD, length-append, length-drop, List·getD-append}
+use lib.ListN.{length, take, drop, length-append, length-drop, List·getD-append}
 use lib.Seq.{take-append-le, drop-append-le}
-use Rattle.tree.specs.Record.{u16At}
+use Rattle.record.specs.Record.{u16At}
 use Rattle.circuit.specs.Check.{Stored}
 use Rattle.listing.specs.declared.outer.Outer.{Outer}
 use Rattle.listing.specs.declared.outer.Outer.the-variants.{Whole, Cut, Bad}
 use Rattle.listing.specs.Outer.{outerAt, sizedOuter}
-use Rattle.listrows.specs.Rows.{Kept, Step, rowKind, rowOf, shows, breaks, stepAt, stepOf}
-use Rattle.listrows.proofs.Steps.{Lies, lies}
+use Rattle.listrows.specs.Rows.{Kept, rowKind, rowOf, shows, breaks, stepAt, stepOf}
+use Rattle.listrows.proofs.Steps.{Inside, Lies, lies}
 
 abbrev pub NotCut : Outer → Type 0
 NotCut (Whole kind start end) = Unit {0}
@@ -47,18 +47,22 @@ module _ (a b : List ℕ) where
       rw (le-ltb (length (a ++ b) - 0) 2 (omega (arith, longer)))
       (ap (sizedOuter (a ++ b) 0) (number-grows 0 (omega arith)) ∙ grows-sized (u16At a 0) (ltb (u16At a 0) 2) refl n)
 
-  outer-grows : NotCut (outerAt a 0) → outerAt (a ++ b) 0 ≡ outerAt a 0
+  pub outer-grows : NotCut (outerAt a 0) → outerAt (a ++ b) 0 ≡ outerAt a 0
   unfolding outerAt
   outer-grows n = grows-some (ltb (length a - 0) 2) refl n
+
+  -- the payload of a record that lies in the bytes
+  pub payload-grows : (start end : ℕ) → Inside a start end → take (end - start) (drop start (a ++ b)) ≡ take (end - start) (drop start a)
+  payload-grows start end l =
+      let i = l .starts in
+      let j = l .there in
+      let o = l .long in
+      ap (take (end - start)) (drop-append-le start a b (omega arith)) ∙ take-append-le (end - start) (drop start a) b (omega (arith, length-drop start a))
 
   step-at-grows : (s : Stored) (number : ℕ) (k : Kept) (p : Outer) → Lies a p → NotCut p → stepAt p s (a ++ b) number k ≡ stepAt p s a number k
   unfolding stepAt
   step-at-grows s number k (Whole kind start end) l n =
-      let i = l .starts in
-      let j = l .there in
-      let o = l .long in
-      let e : take (end - start) (drop start (a ++ b)) ≡ take (end - start) (drop start a) = ap (take (end - start)) (drop-append-le start a b (omega arith)) ∙ take-append-le (end - start) (drop start a) b (omega (arith, length-drop start a)) in
-      ap (λ (row : List ℕ). cond (eqb kind rowKind) (shows end number (rowOf s row number k)) (breaks number k)) e
+      ap (λ (row : List ℕ). cond (eqb kind rowKind) (shows end number (rowOf s row number k)) (breaks number k)) (payload-grows start end l)
   step-at-grows s number k Cut l n = absurd n
   step-at-grows s number k Bad l n = refl
 

@@ -1,7 +1,7 @@
 -- A step on the rest of a buffer, and what it leaves in the whole. Assumes nothing.
 use mathlib.Core.Path.{_≡_, sym, _∙_, ap, subst}
 use mathlib.Core.Bool.{Bool}
-use mathlib.Core.List.{List, _++_}
+use mathlib.Core.List.{List, _++_, append-nil}
 use Prim.Native.Nat.{ℕ, _-_, _≤_}
 use native.Mathlib.Omega.{arith}
 use borrow.Rule.Slice.PartMut.{putMid}
@@ -10,7 +10,6 @@ use lib.Seq.{take-all, drop-at, length-take-le}
 use Rattle.circuit.specs.Check.{Stored}
 use Rattle.listrows.specs.Rows.{Kept, stepOf}
 use Rattle.listrows.specs.Left.{StepLeft}
-use Rattle.listrows.proofs.Edges.{append-none}
 
 pub rest-lent : (at : ℕ) (xs : List ℕ) → take (length xs - at) (drop at xs) ≡ drop at xs
 rest-lent at xs = take-all (length xs - at) (drop at xs) (omega (arith, length-drop at xs))
@@ -19,7 +18,7 @@ pub rest-back : (at : ℕ) (xs ys : List ℕ) → at ≤ length xs → ys ≡ dr
 rest-back at xs ys h =
     sym (drop-at (take at xs) (ys ++ drop (length xs - at) (drop at xs)) at (length-take-le at xs h)
     ∙ ap (λ (z : List ℕ). ys ++ z) (drop-of-length-le (drop at xs) {i = length xs - at} (omega (arith, length-drop at xs)))
-    ∙ append-none ys)
+    ∙ append-nil ys)
 
 pub step-moved : (s : Stored) (tick : ℕ) (k : Kept) (bytes bytes′ : List ℕ) {part part′ after after′ : List ℕ} {read wrote number : ℕ} {goes ended : Bool} {k′ : Kept}
     → bytes ≡ bytes′ → part ≡ part′ → after ≡ after′ → StepLeft (stepOf s bytes tick k) part read wrote number goes ended k′ after → StepLeft (stepOf s bytes′ tick k) part′ read wrote number goes ended k′ after′

@@ -1,8 +1,8 @@
 -- No row is lost where a buffer ends: what a run over some bytes printed, and then what is left of them with all that follows, is what there was to
 -- list. Assumes nothing.
 use mathlib.Core.Path.{_≡_, refl, sym, _∙_, ap}
-use mathlib.Core.Bool.{Bool, true, false, cond, not}
-use mathlib.Core.List.{List, [], _∷_, _++_, append-assoc}
+use mathlib.Core.Bool.{Bool, true, false, cond, not, true≢false}
+use mathlib.Core.List.{List, [], _++_, append-nil, append-assoc}
 use Prim.Native.Nat.{ℕ, zero, suc, _+_, _-_}
 use native.Mathlib.Omega.{arith}
 use borrow.Author.Tests.{ltb-true, ltb-false}
@@ -14,26 +14,27 @@ use Rattle.listing.specs.declared.outer.Outer.{Outer}
 use Rattle.listing.specs.declared.outer.Outer.the-variants.{Whole, Cut, Bad}
 use Rattle.listing.specs.Line.{lineRoom}
 use Rattle.listing.specs.Outer.{outerAt}
-use Rattle.listrows.specs.Rows.{Kept, Shown, Step, Run, rowKind, rowOf, shows, waits, breaks, stepAt, stepOf, stopped, rowsFrom, rowsOf}
+use Rattle.listrows.specs.Rows.{Kept, Run, rowKind, rowOf, shows, waits, breaks, stepAt, stepOf, stopped, rowsFrom, rowsOf}
 use Rattle.listrows.specs.Listing.{restOf, leftAfter}
-use Rattle.listrows.proofs.Edges.{never, append-none, rest-goes, rest-ends}
+use Rattle.listrows.proofs.Edges.{rest-goes, rest-ends}
 use Rattle.listrows.proofs.Turns.{turn-full, turn-goes, turn-stops}
 
--- a step that neither goes on nor ends the run has read and printed nothing
-shows-not : (o : Shown) (end number : ℕ) (k : Kept) → o .goes ≡ false → not (o .goes) ≡ false → shows end number o ≡ waits number k
-shows-not o end number k g e = absurd (never (sym (ap not (sym g) ∙ e)))
-
-waits-at : (s : Stored) (a : List ℕ) (number : ℕ) (k : Kept) (p : Outer) → stepAt p s a number k .goes ≡ false → stepAt p s a number k .ended ≡ false → stepAt p s a number k ≡ waits number k
+-- a step that neither goes on nor ends the run is at a record that is cut: it has read and printed nothing
+pub cut-at : (s : Stored) (a : List ℕ) (number : ℕ) (k : Kept) (p : Outer) → stepAt p s a number k .goes ≡ false → stepAt p s a number k .ended ≡ false → p ≡ Cut
 unfolding stepAt
-waits-at s a number k (Whole kind start end) g e = go (eqb kind rowKind) g e
+cut-at s a number k (Whole kind start end) g e = absurd (go (eqb kind rowKind) g e)
   where
     go : (b : Bool) → (cond b (shows end number (rowOf s (take (end - start) (drop start a)) number k)) (breaks number k)) .goes ≡ false
         → (cond b (shows end number (rowOf s (take (end - start) (drop start a)) number k)) (breaks number k)) .ended ≡ false
-        → cond b (shows end number (rowOf s (take (end - start) (drop start a)) number k)) (breaks number k) ≡ waits number k
-    go true g e = shows-not (rowOf s (take (end - start) (drop start a)) number k) end number k g e
-    go false g e = absurd (never (sym e))
-waits-at s a number k Cut g e = refl
-waits-at s a number k Bad g e = absurd (never (sym e))
+        → ⊥
+    go true g e = true≢false (ap not (sym g) ∙ e)
+    go false g e = true≢false e
+cut-at s a number k Cut g e = refl
+cut-at s a number k Bad g e = absurd (true≢false e)
+
+pub waits-at : (s : Stored) (a : List ℕ) (number : ℕ) (k : Kept) (p : Outer) → p ≡ Cut → stepAt p s a number k ≡ waits number k
+unfolding stepAt
+waits-at s a number k p e = ap (λ (q : Outer). stepAt q s a number k) e
 
 module _ (s : Stored) (room : ℕ) (bytes more : List ℕ) where
   pub all-of : Run → List ℕ
@@ -43,11 +44,11 @@ module _ (s : Stored) (room : ℕ) (bytes more : List ℕ) where
       → text ++ restOf s (drop read bytes ++ more) number k ≡ (let o = stepOf s (drop read bytes) number k in all-of (stopped (text ++ o .text) (read + o .read) (o .number) t (o .kept)))
   unfolding all-of leftAfter stepOf
   stops text read number k true g e =
-      ap (λ (l : List ℕ). text ++ l) (rest-ends s number k more (drop read bytes) g e) ∙ sym (append-none (text ++ stepOf s (drop read bytes) number k .text))
+      ap (λ (l : List ℕ). text ++ l) (rest-ends s number k more (drop read bytes) g e) ∙ sym (append-nil (text ++ stepOf s (drop read bytes) number k .text))
   stops text read number k false g e =
-      let w : waits number k ≡ stepOf s (drop read bytes) number k = sym (waits-at s (drop read bytes) number k (outerAt (drop read bytes) 0) g e) in
+      let w : waits number k ≡ stepOf s (drop read bytes) number k = sym (waits-at s (drop read bytes) number k (outerAt (drop read bytes) 0) (cut-at s (drop read bytes) number k (outerAt (drop read bytes) 0) g e)) in
       let z : read ≡ read + 0 = omega arith in
-      (λ i. sym (append-none text) i ++ restOf s (drop (z i) bytes ++ more) number k)
+      (λ i. sym (append-nil text) i ++ restOf s (drop (z i) bytes ++ more) number k)
       ∙ (λ i. (text ++ w i .text) ++ restOf s (drop (read + w i .read) bytes ++ more) (w i .number) (w i .kept))
 
   pub run-all : (fuel : ℕ) (text : List ℕ) (read number : ℕ) (k : Kept) → text ++ restOf s (drop read bytes ++ more) number k ≡ all-of (rowsFrom fuel s room bytes text read number k)

@@ -4,12 +4,12 @@ use mathlib.Core.Bool.{Bool, true, false}
 use mathlib.Core.List.{List}
 use Prim.Native.Nat.{ℕ}
 use borrow.Author.Tests.{eq-eqb, ne-eqb}
-use lib.ListN.{length, take}
+use lib.ListN.{length}
 use Rattle.text.specs.Text.{placed}
 use Rattle.circuit.specs.Check.{Stored}
 use Rattle.lane.specs.declared.Ticked.{Ticked}
 use Rattle.lane.specs.declared.Ticked.the-variants as is
-use Rattle.lane.specs.Lane.{Lent, Outcome, numberOf, placeOf, accepted}
+use Rattle.lane.specs.Lane.{Lent, numberOf, placeOf, accepted}
 use Rattle.palthengi.specs.declared.Refusal.{Refusal}
 use Rattle.palthengi.specs.Refusal.{Told, ofTicked, told, tell}
 use Rattle.listing.specs.Line.{refusedLine}

@@ -1,13 +1,13 @@
 -- A step: what it reads lies within the bytes, what it prints fits into a line's room. Assumes nothing.
 use mathlib.Core.Path.{_≡_, refl, sym, _∙_, ap, subst}
 use mathlib.Core.Bool.{Bool, true, false, cond, not}
-use mathlib.Core.List.{List, [], _∷_, _++_}
-use Prim.Native.Nat.{ℕ, zero, suc, _+_, _*_, _-_, _≤_, _<_}
+use mathlib.Core.List.{List}
+use Prim.Native.Nat.{ℕ, _+_, _-_, _≤_}
 use native.Mathlib.Omega.{arith}
 use borrow.Author.Tests.{eq-eqb, ne-eqb, ltb-false, le-leb}
-use lib.Dec.{eqb, ltb}
+use lib.Dec.{ltb}
 use lib.ListN.{length, take, drop}
-use Rattle.tree.specs.Record.{u16At}
+use Rattle.record.specs.Record.{u16At}
 use Rattle.circuit.specs.Check.{Stored}
 use Rattle.listing.specs.declared.outer.Outer.{Outer}
 use Rattle.listing.specs.declared.outer.Outer.the-variants.{Whole, Cut, Bad}

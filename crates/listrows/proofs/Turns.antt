@@ -1,22 +1,19 @@
 -- Step after step. Assumes nothing.
-use mathlib.Core.Path.{_≡_, refl, sym, _∙_, ap, subst}
-use mathlib.Core.Bool.{Bool, true, false, cond}
-use mathlib.Core.List.{List, [], _∷_, _++_, append-assoc}
-use Prim.Native.Nat.{ℕ, zero, suc, _+_, _-_, _≤_, _<_}
+use mathlib.Core.Path.{_≡_}
+use mathlib.Core.Bool.{Bool, true, false, cond, false≢true}
+use mathlib.Core.List.{List, _++_}
+use Prim.Native.Nat.{ℕ, suc, _+_, _-_, _≤_, _<_}
 use native.Mathlib.Omega.{arith}
-use borrow.Author.Tests.{lt-ltb, le-ltb, le-leb, eq-eqb}
-use lib.Dec.{eqb, ltb}
-use lib.ListN.{length, take, drop, length-append, length-drop}
-use lib.Seq.{drop-at, take-at, drop-drop}
-use Rattle.text.specs.Text.{placed}
+use borrow.Author.Tests.{lt-ltb, le-ltb}
+use lib.Dec.{eqb}
+use lib.ListN.{length, take, drop}
 use Rattle.circuit.specs.Check.{Stored}
 use Rattle.lane.specs.Lane.{Outcome, accepted, numberOf, placeOf}
 use Rattle.listing.specs.declared.outer.Outer.{Outer}
 use Rattle.listing.specs.declared.outer.Outer.the-variants.{Whole, Cut, Bad}
 use Rattle.listing.specs.Line.{refusedLine, lineRoom}
 use Rattle.listing.specs.Outer.{outerAt}
-use Rattle.listrows.specs.Rows.{Kept, Step, Run, rowKind, rowOf, tickedFrom, lineAfter, textAfter, shows, breaks, stepAt, stepOf, stopped, rowsFrom, rowsOf}
-use Rattle.listrows.specs.Left.{StepLeft, RunLeft}
+use Rattle.listrows.specs.Rows.{Kept, Step, rowKind, rowOf, tickedFrom, lineAfter, textAfter, shows, breaks, stepAt, stepOf, stopped, rowsFrom}
 use Rattle.listrows.proofs.Fits.{line-fits, refused-fits}
 use Rattle.listrows.proofs.Steps.{Lies, lies}
 
@@ -35,18 +32,15 @@ pub record Modest (bytes : List ℕ) (o : Step) : Type 0 where
   pub there : o .read ≤ length bytes
   pub some : o .goes ≡ true → 4 ≤ o .read
 
-never : false ≡ true → ⊥
-never e = let z : _≡_ {A = ℕ} 0 1 = cc in omega arith
-
 modest-at : (s : Stored) (bytes : List ℕ) (number : ℕ) (k : Kept) (p : Outer) → Lies bytes p → Modest bytes (stepAt p s bytes number k)
 unfolding stepAt rowOf
 modest-at s bytes number k (Whole kind start end) l = go (eqb kind rowKind)
   where
     go : (b : Bool) → Modest bytes (cond b (shows end number (rowOf s (take (end - start) (drop start bytes)) number k)) (breaks number k))
     go true = record { fits = text-fits s number (tickedFrom s (take (end - start) (drop start bytes)) k); there = l .there; some = λ _. l .long }
-    go false = record { fits = omega arith; there = omega arith; some = λ e. absurd (never e) }
-modest-at s bytes number k Cut l = record { fits = omega arith; there = omega arith; some = λ e. absurd (never e) }
-modest-at s bytes number k Bad l = record { fits = omega arith; there = omega arith; some = λ e. absurd (never e) }
+    go false = record { fits = omega arith; there = omega arith; some = λ e. absurd (false≢true e) }
+modest-at s bytes number k Cut l = record { fits = omega arith; there = omega arith; some = λ e. absurd (false≢true e) }
+modest-at s bytes number k Bad l = record { fits = omega arith; there = omega arith; some = λ e. absurd (false≢true e) }
 
 pub modest : (s : Stored) (bytes : List ℕ) (number : ℕ) (k : Kept) → Modest bytes (stepOf s bytes number k)
 unfolding stepOf

@@ -1,11 +1,11 @@
 -- The listing program as a function of its input: what it prints, whole. Definitions only.
 use Prim.Native.Nat.{ℕ, zero, suc, _+_, _-_, _*_}
-use mathlib.Core.Bool.{Bool, true, false, cond}
+use mathlib.Core.Bool.{true, false, cond}
 use mathlib.Core.List.{List, [], _∷_, _++_}
 use lib.Dec.{eqb}
 use lib.ListN.{length, take, drop, replicate}
 use Rattle.exact.specs.Whole.{zero32}
-use Rattle.tree.specs.Refusal.{numberOf}
+use Rattle.record.specs.Refusal.{numberOf}
 use Rattle.wire.specs.declared.Counts.{Counts}
 use Rattle.wire.specs.Storage.{opsFrom, numsPerOp, opBiasesFrom, biasesPerOp}
 use Rattle.circuit.specs.Check.{Stored, stored}
@@ -15,7 +15,7 @@ use Rattle.listing.specs.declared.outer.Outer.{Outer}
 use Rattle.listing.specs.declared.outer.Outer.the-variants.{Whole, Cut, Bad}
 use Rattle.listing.specs.Line.{refusedLine, badLine}
 use Rattle.listing.specs.Outer.{outerAt}
-use Rattle.listrows.specs.Rows.{Kept, Step, Run, stepOf}
+use Rattle.listrows.specs.Rows.{Kept, Run, stepOf}
 
 -- ---- leaf rows, to the end of the input
 

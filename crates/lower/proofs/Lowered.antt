@@ -14,8 +14,8 @@ use lib.Ieee.{Float}
 use Rattle.exact.specs.Whole.{zero32}
 use Rattle.tree.specs.declared.flat.Flattened.{Flattened}
 use Rattle.tree.specs.declared.flat.Flattened.the-variants.{Accepted, Refused}
-use Rattle.tree.specs.declared.refusal.Refusal.{Refusal}
-use Rattle.tree.specs.declared.refusal.Cause.the-variants.{ShortRoom}
+use Rattle.record.specs.declared.refusal.Refusal.{Refusal}
+use Rattle.record.specs.declared.refusal.Cause.the-variants.{ShortRoom}
 use Rattle.tree.specs.Tree.{Parsed, accepted, refused, treeOf, flatOf, answerOf, kindsIn, countsIn, padded}
 use Rattle.tree.specs.Bytes.{Bytes}
 use Rattle.compiled.specs.declared.Compiled.{Compiled}

@@ -4,7 +4,7 @@ use mathlib.Core.List.{List}
 use Prim.Native.Nat.{ℕ}
 use lib.Ieee.{Float}
 use Rattle.tree.specs.declared.flat.Flattened.{Flattened}
-use Rattle.tree.specs.declared.refusal.Cause.the-variants.{ShortRoom}
+use Rattle.record.specs.declared.refusal.Cause.the-variants.{ShortRoom}
 use Rattle.compiled.specs.declared.Compiled.{Compiled}
 use Rattle.settle.specs.Settle.{zeros, zeros32}
 

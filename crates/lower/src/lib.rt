@@ -1,8 +1,8 @@
 // compile: from a tree's bytes to a circuit in lent storage.
 use compiled::Compiled;
-use tree::Cause;
+use record::Cause;
+use record::Refusal;
 use tree::Flattened;
-use tree::Refusal;
 ghost use mathlib.Core.Path.{_≡_};
 ghost use Prim.Native.Nat.{_≤_};
 ghost use lib.ListN.{length};

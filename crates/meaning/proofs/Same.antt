@@ -11,7 +11,7 @@ use Rattle.construct.specs.Circuit.{flats}
 use Rattle.construct.specs.Lower.{Flat, cellAfter, fixed, flags, flatOf, force, invert, leaf, ordered, slotAfter, top}
 use Rattle.meaning.proofs.Stop.{calls-are, resume-is, tab, tab-length, walked-is}
 use Rattle.meaning.specs.Means.{Shaped, cursorsOf}
-use Rattle.tree.proofs.Folds.{fold-down, fold-up}
+use Rattle.trees.proofs.Folds.{fold-down, fold-up}
 use Rattle.tree.specs.Fold.{Tells, answers, falls, first, lefts, spreads, stackLefts, stacked}
 use Rattle.tree.specs.Forest.{Counted, Forest, counts, node, none, preorder, size, width}
 use Rattle.walk.proofs.Laws.{would-width}

@@ -2,7 +2,7 @@
 use Prim.Native.Nat.{ℕ}
 use mathlib.Core.List.{List}
 use lib.Ieee.{Float}
-use Rattle.tree.specs.Refusal.{numberOf, kindOf}
+use Rattle.record.specs.Refusal.{numberOf, kindOf}
 use Rattle.wire.specs.declared.Counts.{Counts}
 use Rattle.compiled.specs.declared.Compiled.{Compiled}
 use Rattle.compiled.specs.Compile.{Outcome}

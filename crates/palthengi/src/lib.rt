@@ -197,7 +197,7 @@ fn of_compiled(answer: Compiled) -> Compilation
     }
 }
 
-fn refused(refusal: tree::Refusal) -> Compilation
+fn refused(refusal: record::Refusal) -> Compilation
     ensures { λ r. ⌜ r ≡ ofCompiled (answers.Compiled.Refused refusal) ⌝ }
 {
     let cause = refusal.cause;

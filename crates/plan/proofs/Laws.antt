@@ -10,6 +10,7 @@ use borrow.Author.Tests.{eqb-true, eqb-false, ne-eqb}
 use lib.Dec.{eqb}
 use lib.ListN.{length, length-append, length-take}
 use lib.Seq.{take-all}
+use Rattle.tree.proofs.Lengths.{counts-length}
 use Rattle.tree.specs.Forest.{Forest, none, node, width, size, counts}
 use Rattle.plan.specs.Plan.{nodesIn, listed, placesFrom, numbered, postorder, reportIn, Open, pending, numberOf, closed, still, oneLess, reportOf, times, Rising}
 use Rattle.plan.proofs.Reports.{restOf, all-open}
@@ -49,10 +50,6 @@ above (node x kids rest) cs n =
     ∙ ap (λ (r : List ℕ). inner ++ n ∷ r) (above rest cs (suc n + size kids))
     ∙ ap (λ (k : ℕ). inner ++ n ∷ (after ++ restOf cs k [])) s
     ∙ sym (append-assoc inner (n ∷ after) (restOf cs (n + suc (size kids + size rest)) []))
-
-counts-length : {X : Type 0} (f : Forest X) → length (counts f) ≡ size f
-counts-length none = refl
-counts-length (node x kids rest) = ap suc (length-append (counts kids) (counts rest) ∙ omega (arith, counts-length kids, counts-length rest))
 
 -- "Report order: post-order"
 pub report-tree : {X : Type 0} (tree : Forest X) → size tree ≤ 128 → reportOf (counts tree) ≡ reportIn tree

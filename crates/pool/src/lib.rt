@@ -49,7 +49,7 @@ pub fn sum(f: Form, wires: &[u32], coefs: &[f32], table: &[f32]) -> f32
 }
 
 // The value of op i: a form, or left times max(0, gate).
-pub fn op_value(
+fn op_value(
     nums: &[u32],
     biases: &[f32],
     wires: &[u32],

@@ -5,10 +5,10 @@ use mathlib.Core.List.{List, _++_}
 use lib.ListN.{length, take, replicate}
 use Rattle.kinds.specs.Kinds.{ascii, rowOf}
 use Rattle.text.specs.Text.{decimal}
-use Rattle.tree.specs.declared.refusal.Cause.{Cause}
-use Rattle.tree.specs.declared.refusal.Cause.the-variants.{Truncated, BadLength, BadKind, Unsupported, EmptyComposite, TooDeep, TooManyNodes, Trailing, NoOpRoom, NoTermRoom, ShortRoom}
-use Rattle.tree.specs.declared.refusal.Refusal.{Refusal}
-use Rattle.tree.specs.Refusal.{numberOf, kindOf}
+use Rattle.record.specs.declared.refusal.Cause.{Cause}
+use Rattle.record.specs.declared.refusal.Cause.the-variants.{Truncated, BadLength, BadKind, Unsupported, EmptyComposite, TooDeep, TooManyNodes, Trailing, NoOpRoom, NoTermRoom, ShortRoom}
+use Rattle.record.specs.declared.refusal.Refusal.{Refusal}
+use Rattle.record.specs.Refusal.{numberOf, kindOf}
 use Rattle.refusal.specs.declared.Words.{Words}
 
 -- the words for each cause

@@ -6,7 +6,7 @@ use mathlib.Core.List.{List, [], _∷_}
 use lib.ListN.{length}
 use Rattle.wire.specs.declared.Form.{Form}
 use Rattle.wire.specs.Terms.{Affine}
-use Rattle.arena.proofs.Holds.{grows-none, grows-then, holds-stays}
+use Rattle.holds.proofs.Holds.{grows-none, grows-then, holds-stays}
 use Rattle.construct.specs.Builder.{Op}
 use Rattle.table.specs.declared.Builder.{Builder}
 use Rattle.table.specs.Work.{Mem, Whole, loaded, saved, opsFrom}

@@ -5,7 +5,7 @@ use mathlib.Core.List.{List}
 use lib.Ieee.{Float}
 use Rattle.wire.specs.declared.Form.{Form}
 use Rattle.wire.specs.Terms.{Affine}
-use Rattle.arena.specs.Sums as S
+use Rattle.sums.specs.Sums as S
 use Rattle.construct.specs.Builder as B
 use Rattle.construct.specs.Builder.{Op, Out}
 use Rattle.floats.specs.Floats.{number, floats}

@@ -5,7 +5,7 @@ use mathlib.Core.Path.{_≡_}
 use mathlib.Core.List.{List, [], _∷_}
 use lib.ListN.{length}
 use Rattle.wire.specs.Terms.{Affine}
-use Rattle.arena.specs.Holds.{Grows}
+use Rattle.holds.specs.Holds.{Grows}
 use Rattle.construct.specs.Builder.{Op}
 use Rattle.table.specs.declared.Builder.{Builder}
 use Rattle.table.specs.Work.{Mem, loaded, opsFrom}

@@ -1,3 +1,2 @@
-pub mod Zero
 pub mod Lists
 pub mod Settled

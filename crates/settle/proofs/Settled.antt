@@ -6,7 +6,7 @@ use mathlib.Core.List.{List}
 use borrow.Author.Tests.{lt-ltb, le-ltb}
 use lib.ListN.{length}
 use lib.Ieee.{Float}
-use Rattle.tree.specs.declared.refusal.Cause.the-variants.{NoOpRoom, NoTermRoom}
+use Rattle.record.specs.declared.refusal.Cause.the-variants.{NoOpRoom, NoTermRoom}
 use Rattle.wire.specs.Storage.{opsFrom, opBiasesFrom, opSlots, termSlots}
 use Rattle.compiled.specs.declared.Compiled.{Compiled}
 use Rattle.compiled.specs.Compile.{Outcome}

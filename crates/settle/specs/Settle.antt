@@ -8,8 +8,8 @@ use lib.ListN.{length, replicate}
 use lib.Seq.{sets}
 use lib.Ieee.{Float}
 use Rattle.exact.specs.Whole.{zero32}
-use Rattle.tree.specs.declared.refusal.Cause.{Cause}
-use Rattle.tree.specs.declared.refusal.Cause.the-variants.{NoOpRoom, NoTermRoom}
+use Rattle.record.specs.declared.refusal.Cause.{Cause}
+use Rattle.record.specs.declared.refusal.Cause.the-variants.{NoOpRoom, NoTermRoom}
 use Rattle.plan.specs.Plan.{leavesOf, cursorsOf, reportOf}
 use Rattle.wire.specs.Storage.{leavesFrom, cursorsFrom, reportFrom, opSlots, termSlots}
 use Rattle.compiled.specs.declared.Compiled.{Compiled}

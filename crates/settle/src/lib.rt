@@ -1,8 +1,8 @@
 // What stands around building in compile: whether enough is lent, the plan's lists, the refusals for want of slots, and zeroing.
 use compiled::Compiled;
 use compiled::Room;
-use tree::Cause;
-use tree::Refusal;
+use record::Cause;
+use record::Refusal;
 use wire::Biases;
 use wire::Counts;
 use wire::Nums;

@@ -7,8 +7,8 @@ use lib.Dec.{ltb}
 use lib.ListN.{length, replicate, length-replicate, length-reverse}
 use lib.Seq.{length-sets}
 use Rattle.exact.specs.Whole.{zero32}
-use Rattle.tree.specs.declared.refusal.Cause.{Cause}
-use Rattle.tree.specs.declared.refusal.Cause.the-variants.{NoOpRoom, NoTermRoom}
+use Rattle.record.specs.declared.refusal.Cause.{Cause}
+use Rattle.record.specs.declared.refusal.Cause.the-variants.{NoOpRoom, NoTermRoom}
 use Rattle.tree.specs.Tree.{accepted}
 use Rattle.plan.specs.Plan.{leavesOf, cursorsOf}
 use Rattle.wire.specs.Terms.{Affine}

@@ -14,12 +14,12 @@ use Rattle.exact.specs.Whole.{minusOne32}
 use Rattle.wire.specs.declared.Form.{Form}
 use Rattle.wire.specs.Terms.{Affine}
 use Rattle.wire.specs.Storage.{termSlots}
-use Rattle.arena.specs.declared.Formed.{Formed}
-use Rattle.arena.specs.declared.Room.{Room}
-use Rattle.arena.specs.Sums as S
+use Rattle.fits.specs.declared.Formed.{Formed}
+use Rattle.fits.specs.declared.Room.{Room}
+use Rattle.sums.specs.Sums as S
 use Rattle.arena.specs.Arena as A
-use Rattle.arena.specs.Holds.{Is, Holds, Grows, Lives}
-use Rattle.arena.proofs.Holds.{grows-none, grows-then, holds-stays, single-grows, single-holds, single-lives, scaled-grows, scaled-holds, scaled-lives, one-minus-grows, one-minus-holds, one-minus-lives, plus-grows, plus-holds, plus-lives}
+use Rattle.holds.specs.Holds.{Is, Holds, Grows, Lives}
+use Rattle.holds.proofs.Holds.{grows-none, grows-then, holds-stays, single-grows, single-holds, single-lives, scaled-grows, scaled-holds, scaled-lives, one-minus-grows, one-minus-holds, one-minus-lives, plus-grows, plus-holds, plus-lives}
 use Rattle.construct.specs.Builder.{Op, Out, push}
 use Rattle.floats.specs.Floats.{floats}
 use Rattle.table.specs.declared.Builder.{Builder}

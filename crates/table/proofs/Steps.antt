@@ -5,7 +5,7 @@ use mathlib.Core.Path.{_≡_, refl, sym, ap, _∙_}
 use mathlib.Core.List.{List}
 use lib.Ieee.{Float}
 use Rattle.wire.specs.declared.Form.{Form}
-use Rattle.arena.specs.declared.Formed.{Formed}
+use Rattle.fits.specs.declared.Formed.{Formed}
 use Rattle.arena.specs.Arena.{Outcome, Leaves}
 use Rattle.table.specs.declared.Builder.{Builder}
 use Rattle.table.specs.Work.{Mem, mem, Ended, ended, savedNums, savedBiases, saved, opsFrom, opsMost}

@@ -8,7 +8,7 @@ use lib.ListN.{length}
 use Rattle.wire.specs.declared.Form.{Form}
 use Rattle.wire.specs.Terms.{Affine}
 use Rattle.wire.specs.Storage.{termSlots}
-use Rattle.arena.specs.Holds.{Is, Holds, Grows}
+use Rattle.holds.specs.Holds.{Is, Holds, Grows}
 use Rattle.construct.specs.Builder.{Op, Out}
 use Rattle.table.specs.declared.Builder.{Builder}
 use Rattle.table.specs.Work.{Mem, Ended, loaded, opsFrom, opsMost}

@@ -7,7 +7,7 @@ use lib.Ieee.{Float}
 use Rattle.exact.specs.Whole.{zero32}
 use Rattle.wire.specs.declared.Form.{Form}
 use Rattle.wire.specs.Terms.{constantForm}
-use Rattle.arena.specs.declared.Room.{Room}
+use Rattle.fits.specs.declared.Room.{Room}
 use Rattle.arena.specs.Arena as A
 use Rattle.table.specs.declared.Builder.{Builder}
 use Rattle.table.specs.Work.{Mem, Ended, ended, kept, saved, opsFrom, opsMost}

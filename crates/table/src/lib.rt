@@ -1,6 +1,6 @@
 // A builder by value beside what is lent to it: an arena of terms (two pools), and a table of forms (two slices), whose slot k is nums[2k], nums[2k + 1]
 // and biases[k]. The ops stand in the table's last part; the slots below are for forms that callers keep.
-use arena::Room;
+use fits::Room;
 use index::Wire;
 use wire::Form;
 ghost use mathlib.Core.Path.{_≡_};

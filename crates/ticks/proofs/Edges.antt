@@ -11,7 +11,8 @@ use Rattle.plan.specs.Plan.{listed, placesFrom}
 use Rattle.walk.specs.Kind.{kindOf, isLeaf, cells, slots}
 use Rattle.walk.specs.Status.{statusOf}
 use Rattle.walk.specs.Walk.{Call, Fate, Own, rootCall, owned, fates, fatesOf, wouldBe, tells, each, edge, nextFlag, isRunning, cellsIn, slotsIn, asRead}
-use Rattle.compiles.proofs.Nodes.{Tests, nodes-length}
+use Rattle.tree.proofs.Lengths.{preorder-length}
+use Rattle.planned.proofs.Nodes.{Tests}
 use Rattle.ticks.proofs.Sound.{noFate}
 
 abbrev test : ℕ → Bool
@@ -42,7 +43,7 @@ fates-own flags cursors row call place i c s (node k kids rest) t =
     let told = tells (x .kind) (x .cursor) (wouldBe inner) (call place .ticked) (call place .called && x .running) in (
       t .0,
       refl,
-      owns-append flags (suc i) (suc i + size kids) (preorder kids) (preorder rest) (fates told 0 inner) (fates call (suc place) after) (omega (arith, nodes-length kids))
+      owns-append flags (suc i) (suc i + size kids) (preorder kids) (preorder rest) (fates told 0 inner) (fates call (suc place) after) (omega (arith, preorder-length kids))
           (fates-own flags cursors row told 0 (suc i) (c + cells kind) (s + slots kind) kids (t .1))
           (fates-own flags cursors row call (suc place) (suc i + size kids) (c + cells kind + cellsIn kids) (s + slots kind + slotsIn kids) rest (t .2)),
     )

@@ -3,7 +3,6 @@ use mathlib.Core.Path.{_≡_, refl, sym, _∙_, ap}
 use mathlib.Core.Bool.{Bool, true, false}
 use mathlib.Core.List.{List, [], _∷_, _++_, append-nil, append-assoc, map-append}
 use Prim.Native.Nat.{ℕ, zero, suc, _+_, _*_, _≤_, _<_, min}
-use native.Mathlib.Numerals.{add-one}
 use native.Mathlib.Omega.{arith}
 use borrow.Author.Tests.{leb-true, leb-false}
 use lib.Dec.{leb}
@@ -15,15 +14,15 @@ use Rattle.exact.proofs.Whole.{zero-is, one-is}
 use Rattle.tree.specs.Forest.{Forest, size}
 use Rattle.wire.specs.declared.Counts.{Counts}
 use Rattle.wire.specs.Each.{each}
-use Rattle.wire.proofs.Entries.{each-append}
 use Rattle.fill.specs.Fill.{fillAt}
-use Rattle.fill.proofs.Fill.{fill-length}
+use Rattle.fill.proofs.Fill.{fill-length, snoc}
 use Rattle.walk.specs.Kind as K
 use Rattle.walk.specs.Status.{statusOf}
 use Rattle.walk.specs.Walk.{isRunning, asRead, cellsIn, slotsIn}
 use Rattle.floats.specs.Floats.{number}
 use Rattle.agree.proofs.Values.{numbers}
 use Rattle.evaluate.specs.Evaluate.{bit, flagCell, cursorCell, statusBit, leavesAt, cellsOf}
+use Rattle.evaluate.proofs.Cells.{leaves-length}
 use Rattle.compiles.proofs.Cells.{threeOf, rowCells, flagCells, cursorCells, cellsFor}
 
 -- ---- one cell
@@ -53,12 +52,6 @@ status-numbers (suc (suc (suc s))) h = absurd (omega arith)
 
 -- ---- lists that are written
 
-snoc : {A : Type 0} (g : ℕ → A) (n : ℕ) → each g 0 n ++ (g n ∷ []) ≡ each g 0 (suc n)
-unfolding each
-snoc g n =
-    let q : n ≡ 0 + n = omega arith in
-    ap (λ (k : ℕ). each g 0 n ++ (g k ∷ [])) q ∙ sym (each-append g 0 n 1) ∙ ap (each g 0) (add-one n)
-
 fill-take : {A : Type 0} (base : ℕ) (g : ℕ → A) (xs : List A) (n : ℕ) → base + n ≤ length xs → take (base + n) (fillAt base g xs n) ≡ take base xs ++ each g 0 n
 unfolding fillAt each
 fill-take base g xs zero h = let e : base + 0 ≡ base = omega arith in ap (λ (k : ℕ). take k xs) e ∙ sym (append-nil (take base xs))
@@ -75,11 +68,6 @@ each-numbers : (g : ℕ → Float) (k : ℕ → ℕ) (i n : ℕ) → ((j : ℕ) 
 unfolding each
 each-numbers g k i zero e = refl
 each-numbers g k i (suc n) e = λ j. e i j ∷ each-numbers g k (suc i) n e j
-
-leaves-length : (base : ℕ) (row : List ℕ) (xs : List Float) (n : ℕ) → length (leavesAt base row xs n) ≡ length xs
-unfolding leavesAt
-leaves-length base row xs zero = refl
-leaves-length base row xs (suc n) = simp length-set (leaves-length base row xs n)
 
 -- three writes, one after the other
 three-take : (l : List Float) (at : ℕ) (a b c : Float) → at + 3 ≤ length l → take (at + 3) (set (set (set l at a) (at + 1) b) (at + 2) c) ≡ take at l ++ (a ∷ b ∷ c ∷ [])

@@ -39,7 +39,8 @@ use Rattle.encoded.specs.Encoded.{opIn}
 use Rattle.encoded.proofs.Sets.{map-at}
 use Rattle.encoded.proofs.Back as back
 use Rattle.compiles.specs.Compiles.{treeCircuit, storedOf, Slots}
-use Rattle.compiles.proofs.Nodes.{shaped, nodes-length, leaves-count, cursors-count}
+use Rattle.tree.proofs.Lengths.{preorder-length}
+use Rattle.planned.proofs.Nodes.{shaped, leaves-count, cursors-count}
 use Rattle.compiles.proofs.Cells.{Low, cellsFor, cells-loaded, cells-low}
 use Rattle.compiles.proofs.Shape.{all2-length, in-floats}
 use Rattle.compiles.proofs.Images.{all-getD, all-second}
@@ -96,7 +97,7 @@ module _ (f : Forest ℕ) (w : limits.Within f) (l : Lent) (slots : Slots l (tre
   ins-length : length ins ≡ n .cells
   ins-length =
       cells-loaded f flags cursors row .long
-      ∙ omega (arith, nodes-length f, leaves-count f (w .lowered) (w .few), cursors-count f (w .lowered) (w .few))
+      ∙ omega (arith, preorder-length f, leaves-count f (w .lowered) (w .few), cursors-count f (w .lowered) (w .few))
 
   pub table-is : take (n .cells + n .ops) table ≡ numbers whole
   unfolding E.tableOf
@@ -111,7 +112,7 @@ module _ (f : Forest ℕ) (w : limits.Within f) (l : Lent) (slots : Slots l (tre
       back.op-is n p (treeCircuit f) (l .nums) (l .biases) (l .wires) (l .coefs) (F f w l slots) k b ∙ ap opIn (op-image f w l slots k b))
       (scoped f w l slots .ops) (omega arith) (n .ops) (sym same)
       ∙ ap (λ (t : List Float). floatTable t (map (ofOp float) (d .ops)))
-      (cells-numbers f n flags cursors row values (nodes-length f) (cursors-count f (w .lowered) (w .few)) m (omega arith) (λ k h. given k (omega arith)))
+      (cells-numbers f n flags cursors row values (preorder-length f) (cursors-count f (w .lowered) (w .few)) m (omega arith) (λ k h. given k (omega arith)))
       ∙ sym (ap (λ (c : Circuit Affine). floatTable (numbers ins) (c .ops)) (in-floats f w))
       ∙ tree-table f (shaped f (w .lowered)) (w .one) (w .few) flags cursors row ins (cells-loaded f flags cursors row) (cells-low f flags cursors row)
 

@@ -1,6 +1,6 @@
 -- The value table that a tick computes begins with the floats of the tree's value table. Assumes nothing.
 use mathlib.Core.Path.{_≡_, refl, sym, _∙_, ap}
-use mathlib.Core.List.{List, [], _∷_, _++_, map}
+use mathlib.Core.List.{List, [], _∷_, _++_, map, map-append}
 use Prim.Native.Nat.{ℕ, zero, suc, _+_, _≤_, _<_}
 use native.Mathlib.Omega.{arith}
 use lib.ListN.{length, getD, set, take, length-append}
@@ -71,11 +71,7 @@ module _ (op : ℕ → W.Op) (cells : ℕ) (values : List Float) (os : List Op) 
       ∙ ap (λ (x : Float). take (cells + n) now ++ (x ∷ [])) v
       ∙ ap (λ (t : List Float). t ++ (worth t (ofOp float o) ∷ [])) ih
       ∙ sym (float-snoc (take cells values) (map (ofOp float) (take n os)) (ofOp float o))
-      ∙ ap (floatTable (take cells values)) (sym (map-snoc (take n os) o) ∙ sym (ap (map (ofOp float)) (take-suc os n zOp (omega arith))))
-    where
-      map-snoc : (xs : List Op) (o : Op) → map (ofOp float) (xs ++ (o ∷ [])) ≡ map (ofOp float) xs ++ (ofOp float o ∷ [])
-      map-snoc [] o = refl
-      map-snoc (x ∷ xs) o = ap (λ (l : List (B.Op Affine)). ofOp float x ∷ l) (map-snoc xs o)
+      ∙ ap (floatTable (take cells values)) (sym (map-append (ofOp float) (take n os) (o ∷ [])) ∙ sym (ap (map (ofOp float)) (take-suc os n zOp (omega arith))))
 
   pub table-floats : (n : ℕ) → n ≡ length os → take (cells + n) (tableAfter op cells values n) ≡ floatTable (take cells values) (map (ofOp float) os)
   table-floats n e =

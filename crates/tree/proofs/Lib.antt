@@ -1,10 +1,5 @@
 pub mod Answer
-pub mod Cards
-pub mod Exact
-pub mod Folds
-pub mod Local
-pub mod Only
-pub mod Reader
+pub mod Lengths
 pub mod Stack
 pub mod Turn
 pub mod Zero

@@ -1,6 +1,5 @@
 pub mod Bytes
 pub mod Fold
 pub mod Forest
-pub mod Record
-pub mod Refusal
+pub mod Told
 pub mod Tree

@@ -8,7 +8,7 @@ use mathlib.Core.List.{List, _∷_}
 use lib.ListN.{length}
 use Rattle.exact.specs.Whole.{zero32}
 use Rattle.wire.specs.Terms.{Affine, constantForm}
-use Rattle.arena.specs.Sums as S
+use Rattle.sums.specs.Sums as S
 use Rattle.construct.specs.Lower.{Flat, leaf, fixed, invert, force, ordered, upStep}
 use Rattle.construct.specs.Lower as L
 use Rattle.floats.specs.Floats.{floats}

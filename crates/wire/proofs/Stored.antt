@@ -50,17 +50,9 @@ holds n nums biases wires coefs h =
 -- ---- the lists of a circuit
 
 module _ (n : Counts) (nums : List ℕ) (biases : List Float) (wires : List ℕ) (coefs : List Float) where
-  pub ops-length : length (circuitOf n nums biases wires coefs .ops) ≡ n .ops
-  unfolding circuitOf
-  ops-length = each-length (opAt nums biases wires coefs) 0 (n .ops)
-
   pub ops-at : (i : ℕ) (d : Op) → i < n .ops → getD (circuitOf n nums biases wires coefs .ops) i d ≡ opAt nums biases wires coefs i
   unfolding circuitOf
   ops-at i d h = let q : 0 + i ≡ i = omega arith in each-getD (opAt nums biases wires coefs) 0 (n .ops) i d h ∙ ap (opAt nums biases wires coefs) q
-
-  pub outputs-length : length (circuitOf n nums biases wires coefs .outputs) ≡ outputCount n
-  unfolding circuitOf
-  outputs-length = each-length (outputAt nums biases wires coefs) 0 (outputCount n)
 
   pub outputs-at : (k : ℕ) (d : Affine) → k < outputCount n → getD (circuitOf n nums biases wires coefs .outputs) k d ≡ outputAt nums biases wires coefs k
   unfolding circuitOf

@@ -6,7 +6,8 @@ use wire::Counts;
 use wire::Form;
 ghost use mathlib.Core.Path.{_≡_};
 ghost use lib.ListN.{length};
-ghost use Rattle.eval.specs.Evaluation.{valueOf, opValueOf, storedOp, evaluated, tableLeft};
+ghost use Rattle.reading.specs.Reading.{storedOp};
+ghost use Rattle.eval.specs.Evaluation.{valueOf, opValueOf, evaluated, tableLeft};
 ghost use Rattle.layers.specs.Layers.{layered, layersLeft, layeredNumber, largest};
 ghost use Rattle.wirec.specs.Answers.{answerOf, endedOf};
 
@@ -77,7 +78,7 @@ pub extern "C" fn palthengi_op_value(
 ) -> Answer
     ensures { λ r. ⌜ r ≡ answerOf (opValueOf (now (wires .entry)) (now (coefs .entry)) (now (table .entry)) (storedOp (now (nums .entry)) (now (biases .entry)) i)) ⌝ }
 {
-    let op = eval::op_at(nums, biases, i);
+    let op = reading::op_at(nums, biases, i);
     answer_of(eval::op_value(op, wires, coefs, table))
 }
 

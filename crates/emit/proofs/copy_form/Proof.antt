@@ -6,7 +6,7 @@ use Prim.Native.Nat.{ℕ, _+_, _-_, _≤_}
 use lib.ListN.{length, getD, length-set}
 use lib.Ieee.{Float, nan}
 use Rattle.wire.specs.Terms.{part}
-use Rattle.arena.specs.Steps.{Put}
+use Rattle.sums.specs.Steps.{Put}
 use Rattle.emit.proofs.Made.{copy-turn, copy-end, copy-all}
 use Rattle.emit.proofs.copy_form.Statement.{statement}
 use Rattle.emit.proofs.copy_form.Tie as tie

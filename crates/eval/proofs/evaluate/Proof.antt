@@ -1,3 +1,4 @@
+-- `eval::evaluate` meets its contract. Assumes nothing.
 use native.Mathlib.Omega.{arith}
 use Rattle.eval.proofs.Running.{bad-high, good-before, ends-short, ends-bad, ends-done}
 use borrow.Author.Needs.{needs}

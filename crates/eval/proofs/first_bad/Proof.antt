@@ -1,3 +1,4 @@
+-- `eval::first_bad` meets its contract. Assumes nothing.
 use borrow.Author.Tests.{not-true, not-false}
 use Rattle.eval.specs.Evaluation.{firstFalse, firstBad}
 use Rattle.eval.proofs.Running.{canValue, bad-start, bad-next, bad-here, bad-end}

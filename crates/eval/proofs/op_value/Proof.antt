@@ -1,4 +1,5 @@
-use Rattle.eval.proofs.Reading.{value-affine, value-neither, no-left, no-gate, value-reglu}
+-- `eval::op_value` meets its contract. Assumes nothing.
+use Rattle.eval.proofs.Valuing.{value-affine, value-neither, no-left, no-gate, value-reglu}
 use borrow.Author.Needs.{needs}
 use Rattle.eval.proofs.op_value.Statement.{statement}
 use Rattle.eval.proofs.op_value.Tie as tie

@@ -1,5 +1,7 @@
+-- `eval::value` meets its contract. Assumes nothing.
 use mathlib.Core.Path.{_∙_, sym}
-use Rattle.eval.proofs.Reading.{may-read, value-there, value-short}
+use Rattle.reading.proofs.Reading.{may-read}
+use Rattle.eval.proofs.Valuing.{value-there, value-short}
 use borrow.Author.Needs.{needs}
 use Rattle.eval.proofs.value.Statement.{statement}
 use Rattle.eval.proofs.value.Tie as tie

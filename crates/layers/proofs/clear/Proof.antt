@@ -1,3 +1,4 @@
+-- `layers::clear` meets its contract. Assumes nothing.
 use mathlib.Core.List.{_++_}
 use lib.ListN.{replicate, drop}
 use borrow.Author.Fill.{fill-none, fill-more}

@@ -1,3 +1,4 @@
+-- `layers::form_depth` meets its contract. Assumes nothing.
 use Rattle.layers.proofs.Deep.{form-depth}
 use borrow.Author.Needs.{needs}
 use Rattle.layers.proofs.form_depth.Statement.{statement}

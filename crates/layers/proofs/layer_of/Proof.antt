@@ -1,3 +1,4 @@
+-- `layers::layer_of` meets its contract. Assumes nothing.
 use native.Mathlib.Omega.{arith}
 use Rattle.layers.proofs.Deep.{layer-there, layer-past}
 use borrow.Author.Needs.{needs}

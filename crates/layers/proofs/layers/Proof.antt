@@ -1,4 +1,5 @@
-use Rattle.eval.specs.Evaluation.{storedOp}
+-- `layers::layers` meets its contract. Assumes nothing.
+use Rattle.reading.specs.Reading.{storedOp}
 use Rattle.layers.proofs.Deep.{So, so-none, so-more, lays-short, lays-done}
 use native.Mathlib.Omega.{arith}
 use borrow.Author.Needs.{needs}

@@ -1,3 +1,4 @@
+-- `layers::op_depth` meets its contract. Assumes nothing.
 use native.Mathlib.Omega.{arith}
 use Rattle.layers.proofs.Deep.{depth-affine, depth-reglu, depth-neither}
 use borrow.Author.Needs.{needs}

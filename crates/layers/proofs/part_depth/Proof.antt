@@ -1,3 +1,4 @@
+-- `layers::part_depth` meets its contract. Assumes nothing.
 use mathlib.Core.Logic.{⊎-elim}
 use Prim.Native.Nat.{max}
 use lib.ListN.{drop, take}

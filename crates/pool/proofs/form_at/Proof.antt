@@ -1,3 +1,4 @@
+-- `pool::form_at` meets its contract. Assumes nothing.
 use borrow.Author.Needs.{needs}
 use Rattle.pool.proofs.form_at.Statement.{statement}
 use Rattle.pool.proofs.form_at.Tie as tie

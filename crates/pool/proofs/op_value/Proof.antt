@@ -1,3 +1,4 @@
+-- `pool::op_value` meets its contract. Assumes nothing.
 use mathlib.Core.Path.{_∙_}
 use native.Mathlib.Omega.{arith}
 use Rattle.pool.proofs.Sums.{op-affine, op-reglu}

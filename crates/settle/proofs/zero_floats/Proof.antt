@@ -4,7 +4,7 @@ use native.Mathlib.Omega.{arith}
 use borrow.Author.Needs.{needs}
 use lib.ListN.{length}
 use Rattle.exact.specs.Whole.{zero32}
-use Rattle.settle.proofs.Zero.{Filled, filled-none, filled-length, filled-more, filled-all}
+use Rattle.tree.proofs.Zero.{Filled, filled-none, filled-length, filled-more, filled-all}
 use Rattle.settle.proofs.zero_floats.Statement.{statement}
 use Rattle.settle.proofs.zero_floats.Tie as tie
 

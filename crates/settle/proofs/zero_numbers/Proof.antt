@@ -3,7 +3,7 @@ use Prim.Native.Nat.{_-_}
 use native.Mathlib.Omega.{arith}
 use borrow.Author.Needs.{needs}
 use lib.ListN.{length}
-use Rattle.settle.proofs.Zero.{Filled, filled-none, filled-length, filled-more, filled-all}
+use Rattle.tree.proofs.Zero.{Filled, filled-none, filled-length, filled-more, filled-all}
 use Rattle.settle.proofs.zero_numbers.Statement.{statement}
 use Rattle.settle.proofs.zero_numbers.Tie as tie
 

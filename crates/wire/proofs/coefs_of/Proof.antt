@@ -1,3 +1,4 @@
+-- `wire::coefs_of` meets its contract. Assumes nothing.
 use native.Mathlib.Omega.{arith}
 use Rattle.wire.proofs.Parts.{look-past, look-inside}
 use borrow.Author.Needs.{needs}

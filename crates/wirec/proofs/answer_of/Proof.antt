@@ -1,3 +1,4 @@
+-- `wirec::answer_of` meets its contract. Assumes nothing.
 use borrow.Author.Needs.{needs}
 use Rattle.wirec.proofs.answer_of.Statement.{statement}
 use Rattle.wirec.proofs.answer_of.Tie as tie

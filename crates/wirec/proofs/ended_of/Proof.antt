@@ -1,3 +1,4 @@
+-- `wirec::ended_of` meets its contract. Assumes nothing.
 use borrow.Author.Needs.{needs}
 use Rattle.wirec.proofs.ended_of.Statement.{statement}
 use Rattle.wirec.proofs.ended_of.Tie as tie

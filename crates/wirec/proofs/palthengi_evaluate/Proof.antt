@@ -1,3 +1,4 @@
+-- `wirec::palthengi_evaluate` meets its contract. Assumes nothing.
 use mathlib.Core.Path.{_∙_, ap}
 use Rattle.wirec.specs.Answers.{endedOf}
 use borrow.Author.Needs.{needs}

@@ -1,3 +1,4 @@
+-- `wirec::palthengi_layers` meets its contract. Assumes nothing.
 use mathlib.Core.Path.{_∙_, ap, sym}
 use Rattle.layers.specs.Layers.{layeredNumber}
 use borrow.Author.Needs.{needs}

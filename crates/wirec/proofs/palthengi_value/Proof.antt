@@ -1,3 +1,4 @@
+-- `wirec::palthengi_value` meets its contract. Assumes nothing.
 use mathlib.Core.Path.{_∙_, ap}
 use Rattle.wirec.specs.Answers.{answerOf}
 use borrow.Author.Needs.{needs}

@@ -4,18 +4,18 @@ use Prim.Native.Nat.{_-_}
 use native.Mathlib.Omega.{arith}
 use borrow.Author.Needs.{needs}
 use lib.ListN.{length}
-use Rattle.tree.proofs.Zero.{Zeroed, zero-holds, zero-more, zero-all, zero-length}
+use Rattle.tree.proofs.Zero.{Filled, filled-none, filled-length, filled-more, filled-all}
 use Rattle.tree.proofs.flat.zero_kinds.Statement.{statement}
 use Rattle.tree.proofs.flat.zero_kinds.Tie as tie
 
 abbrev Inv-loop : tie.InvT-loop
-Inv-loop kinds₀ i₀ kinds i = Zeroed kinds₀ kinds i
+Inv-loop kinds₀ i₀ kinds i = Filled 0 kinds₀ kinds i
 
 abbrev μ-loop : tie.MeasureT-loop
 μ-loop kinds₀ i₀ kinds i = length kinds₀ - i
 
 loop-holds : tie.Need-loop-holds Inv-loop μ-loop
-loop-holds c = zero-holds _
+loop-holds c = filled-none 0 _
 
 slice-write-kinds : tie.Need-slice-write-kinds Inv-loop μ-loop
 slice-write-kinds c = search needs
@@ -25,17 +25,17 @@ add-i c = search needs
 
 loop-less : tie.Need-loop-less Inv-loop μ-loop
 loop-less c =
-    let e = zero-length _ _ _ (c .before .loop .inv) in
+    let e = filled-length 0 _ _ _ (c .before .loop .inv) in
     omega arith
 
 loop-again : tie.Need-loop-again Inv-loop μ-loop
-loop-again c = zero-more _ _ _ (c .before .loop .inv) (c .loop-test .taken)
+loop-again c = filled-more 0 _ _ _ (c .before .loop .inv) (c .loop-test .taken)
 
 same-length : tie.Need-same-length Inv-loop μ-loop
-same-length c = zero-length _ _ _ (c .before .loop .inv)
+same-length c = filled-length 0 _ _ _ (c .before .loop .inv)
 
 returns : tie.Need-returns Inv-loop μ-loop
-returns c = zero-all _ _ _ (c .before .loop .inv) (c .loop-test .left)
+returns c = filled-all 0 _ _ _ (c .before .loop .inv) (c .loop-test .left)
 
 pub zero-kinds-spec : {M : Type 1} → statement M
 zero-kinds-spec =

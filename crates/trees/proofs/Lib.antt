@@ -1,0 +1,5 @@
+pub mod Cards
+pub mod Exact
+pub mod Folds
+pub mod Local
+pub mod Only
