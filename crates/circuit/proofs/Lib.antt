@@ -2,4 +2,5 @@ pub mod All
 pub mod Rising
 pub mod Count
 pub mod Whole
+pub mod Passes
 pub mod Checked

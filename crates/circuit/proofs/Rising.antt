@@ -6,16 +6,14 @@ use mathlib.Core.Bool.{Bool, true, false, _&&_}
 use Prim.Native.Nat.{ℕ, zero, suc, _+_, _-_, _≤_, _<_}
 use native.Mathlib.Nat.{eq-or-lt-of-le}
 use native.Mathlib.Omega.{arith}
-use borrow.Author.Tests.{ltb-true, lt-ltb, le-leb, lt-leb}
+use borrow.Author.Tests.{ltb-true, lt-ltb, le-ltb, le-leb, lt-leb}
 use lib.ListN.{getD}
 use lib.Dec.{ltb}
-use Rattle.exact.specs.Tests.{small}
 use Rattle.wire.specs.All.{all}
-use Rattle.wire.specs.declared.Form.{Form}
 use Rattle.wire.proofs.Tests.{both, both-left, both-right, all-at}
-use Rattle.circuit.specs.Check.{readsBelow, pairs, rising, risesBelow}
-use Rattle.circuit.specs.Parts.{formOk}
-use Rattle.circuit.proofs.All.{same, and-false, all-from}
+use Rattle.circuit.specs.Check.{pairs, rising, risesBelow}
+use Rattle.circuit.specs.Parts.{rangeOk}
+use Rattle.circuit.proofs.All.{same, all-from}
 
 -- n neighbours that rise, the last below a limit: so are all
 below-last : (xs : List ℕ) (from n limit : ℕ) → pairs xs from n ≡ true → getD xs (from + n) 0 < limit → (i : ℕ) → i ≤ n → getD xs (from + i) 0 < limit
@@ -53,38 +51,34 @@ module _ (xs : List ℕ) (from n limit : ℕ) (some : 0 < n) where
           let l = subst (λ (k : ℕ). getD xs k 0 < limit) (sym last-is) (ltb-true (getD xs (from + n - 1) 0) limit a) in
           both below (pairs xs from (n - 1)) (all-from (λ i. ltb (getD xs (from + i) 0) limit) n (λ i h. lt-ltb (getD xs (from + i) 0) limit (below-last xs from (n - 1) limit b l i (omega arith)))) b
 
-swap : (r w l b : Bool) → r && w ≡ l && w → r && (w && b) ≡ b && (l && w)
-swap r true l true e = e
-swap r true l false e = and-false r
-swap r false l true e = and-false r ∙ sym (and-false l)
-swap r false l false e = and-false r
+-- the ways out of a test of n entries
+module _ (xs : List ℕ) (from n limit : ℕ) where
+  pub rises-none : n ≡ 0 → true ≡ risesBelow xs from n limit
+  unfolding risesBelow pairs all
+  rises-none z = sym (λ j. all (λ i. ltb (getD xs (from + i) 0) limit) (z j) && all (λ i. ltb (getD xs (from + i) 0) (getD xs (from + i + 1) 0)) (z j - 1))
 
-module _ (wires : List ℕ) (terms limit : ℕ) (f : Form) where
-  module _ {first len : ℕ} (a : first ≡ f .first) (b : len ≡ f .len) where
-    pub form-outside : terms < first + len → false ≡ formOk wires terms limit f
-    unfolding formOk
-    form-outside h = rw (lt-leb (f .first + f .len) terms (omega arith))
+  module _ (some : 0 < n) {last : ℕ} (is : last ≡ getD xs (from + n - 1) 0) where
+    rises-by : ltb last limit && pairs xs from (n - 1) ≡ risesBelow xs from n limit
+    unfolding risesBelow
+    rises-by = (λ j. ltb (is j) limit && pairs xs from (n - 1)) ∙ sym (last-decides xs from n limit some)
 
-    pub form-empty : first + len ≤ terms → len ≡ 0 → {fine : Bool} → fine ≡ small (f .bias) → fine ≡ formOk wires terms limit f
-    unfolding formOk readsBelow pairs all
-    form-empty h z e =
-        let y : f .len ≡ 0 = sym b ∙ z in
-        e
-        ∙ sym (λ j. le-leb (f .first + f .len) terms (omega arith) j
-        && (all (λ i. ltb (getD wires (f .first + i) 0) limit) (y j) && (all (λ i. ltb (getD wires (f .first + i) 0) (getD wires (f .first + i + 1) 0)) (y j - 1) && small (f .bias))))
+    pub rises-high : limit ≤ last → false ≡ risesBelow xs from n limit
+    rises-high h = sym (ap (λ (t : Bool). t && pairs xs from (n - 1)) (le-ltb last limit h)) ∙ rises-by
 
-    pub form-is : first + len ≤ terms → 0 < len → {fine rise : Bool} {last : ℕ} → fine ≡ small (f .bias) → last ≡ getD wires (first + len - 1) 0 → rise ≡ pairs wires first (len - 1)
-        → fine && (ltb last limit && rise) ≡ formOk wires terms limit f
-    unfolding formOk readsBelow
-    form-is h p e l r =
-        (λ j. e j && (ltb ((l ∙ (λ k. getD wires (a k + b k - 1) 0)) j) limit && (r ∙ (λ k. pairs wires (a k) (b k - 1))) j))
-        ∙ sym (swap (readsBelow wires limit f) (rising wires (f .first) (f .len)) (ltb (getD wires (f .first + f .len - 1) 0) limit) (small (f .bias)) (last-decides wires (f .first) (f .len) limit (omega arith)))
-        ∙ sym (ap (λ (t : Bool). t && (readsBelow wires limit f && (rising wires (f .first) (f .len) && small (f .bias)))) (le-leb (f .first + f .len) terms (omega arith)))
+    pub rises-is : last < limit → {rise : Bool} → rise ≡ pairs xs from (n - 1) → rise ≡ risesBelow xs from n limit
+    rises-is h e = e ∙ sym (ap (λ (t : Bool). t && pairs xs from (n - 1)) (lt-ltb last limit h)) ∙ rises-by
 
-pub list-empty : (xs : List ℕ) (from n nodes : ℕ) → n ≡ 0 → true ≡ risesBelow xs from n nodes
-unfolding risesBelow pairs all
-list-empty xs from n nodes z = sym (λ j. all (λ i. ltb (getD xs (from + i) 0) nodes) (z j) && all (λ i. ltb (getD xs (from + i) 0) (getD xs (from + i + 1) 0)) (z j - 1))
+    pub rises-one : last < limit → n ≡ 1 → true ≡ risesBelow xs from n limit
+    unfolding pairs all
+    rises-one h z = rises-is h (sym (λ j. pairs xs from (z j - 1)))
 
-pub list-is : (xs : List ℕ) (from n nodes : ℕ) → 0 < n → {last : ℕ} {rise : Bool} → last ≡ getD xs (from + n - 1) 0 → rise ≡ pairs xs from (n - 1) → ltb last nodes && rise ≡ risesBelow xs from n nodes
-unfolding risesBelow
-list-is xs from n nodes p l r = (λ j. ltb (l j) nodes && r j) ∙ sym (last-decides xs from n nodes p)
+-- the ways out of a test of a range
+module _ (wires : List ℕ) (terms limit : ℕ) (nums : List ℕ) (at : ℕ) {end : ℕ} (is : end ≡ getD nums at 0 + getD nums (at + 1) 0) where
+  pub range-outside : terms < end → false ≡ rangeOk wires terms limit nums at
+  unfolding rangeOk
+  range-outside h = rw (lt-leb (getD nums at 0 + getD nums (at + 1) 0) terms (omega arith))
+
+  pub range-inside : end ≤ terms → {r : Bool} → r ≡ risesBelow wires (getD nums at 0) (getD nums (at + 1) 0) limit → r ≡ rangeOk wires terms limit nums at
+  unfolding rangeOk
+  range-inside h e =
+      e ∙ sym (ap (λ (t : Bool). t && risesBelow wires (getD nums at 0) (getD nums (at + 1) 0) limit) (le-leb (getD nums at 0 + getD nums (at + 1) 0) terms (omega arith)))

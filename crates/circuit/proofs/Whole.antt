@@ -119,7 +119,7 @@ regroup k i r w cn cs b ls f g e =
     (both w (cn && (cs && (b && ls))) (both-left w b m2)
     (both cn (cs && (b && ls)) (both-left cn cs c) (both cs (b && ls) (both-right cn cs c) (both b ls (both-right w b m2) (both-right g ls gl))))))))
 
-assoc : (a b c d : Bool) → a && (b && (c && d)) ≡ (a && (b && c)) && d
+pub assoc : (a b c d : Bool) → a && (b && (c && d)) ≡ (a && (b && c)) && d
 assoc false b c d = refl
 assoc true false c d = refl
 assoc true true c d = refl

@@ -1,15 +1,15 @@
--- What each pass of the check decides. That the passes together decide Check's list is proved in proofs/Whole.antt. Definitions only.
-use Prim.Native.Nat.{ℕ}
+-- The check form by form, and what each of its passes decides. That both are Check's list is proved in proofs/Whole.antt and Passes.antt. Definitions only.
+use Prim.Native.Nat.{ℕ, _+_, _*_}
 use mathlib.Core.List.{List}
-use mathlib.Core.Bool.{Bool, _&&_, cond}
+use mathlib.Core.Bool.{Bool, _&&_, _||_, cond}
 use lib.ListN.{getD}
-use lib.Dec.{ltb}
+use lib.Dec.{ltb, leb, eqb}
 use lib.Ieee.{Float, nan}
-use Rattle.exact.specs.Tests.{coefficient}
+use Rattle.exact.specs.Tests.{small, coefficient}
 use Rattle.wire.specs.All.{all}
 use Rattle.wire.specs.declared.Form.{Form}
 use Rattle.wire.specs.declared.Counts.{Counts}
-use Rattle.wire.specs.Storage.{leavesFrom, cursorsFrom, reportFrom, outputCount}
+use Rattle.wire.specs.Storage.{leavesFrom, cursorsFrom, reportFrom, outputsFrom, opsFrom, opBiasesFrom, affineKind, regluKind, outputCount}
 use Rattle.circuit.specs.Check.{Stored, someNode, sizesFit, cellsFit, kindKnown, inside, readsBelow, pairs, wiresRise, biasSmall, risesBelow, eachOnce, opForms, outForm}
 
 abbrev pub sizesOk : Counts → Bool
@@ -41,6 +41,35 @@ listsOk n nums =
 unfoldable pub contentsOk : Stored → Bool
 unfolding coefsOk opOk outOk listsOk all
 contentsOk s = coefsOk (s .coefs) (s .counts .terms) && (all (opOk s) (s .counts .ops) && (all (outOk s) (outputCount (s .counts)) && listsOk (s .counts) (s .nums)))
+
+-- ---- the passes
+
+-- every bias of n, from an index on
+unfoldable pub biasesOk : List Float → ℕ → ℕ → Bool
+unfolding all
+biasesOk biases from n = all (λ i. small (getD biases (from + i) nan)) n
+
+unfoldable pub floatsOk : Counts → List Float → List Float → Bool
+unfolding coefsOk biasesOk
+floatsOk n biases coefs = coefsOk coefs (n .terms) && (biasesOk biases 0 (outputCount n) && biasesOk biases opBiasesFrom (2 * n .ops))
+
+-- what is asked of the form whose range stands at an index of nums, but for its bias
+unfoldable pub rangeOk : List ℕ → ℕ → ℕ → List ℕ → ℕ → Bool
+unfolding risesBelow
+rangeOk wires terms limit nums at = leb (getD nums at 0 + getD nums (at + 1) 0) terms && risesBelow wires (getD nums at 0) (getD nums (at + 1) 0) limit
+
+-- of the op that stands there
+unfoldable pub opRanges : List ℕ → ℕ → ℕ → List ℕ → ℕ → Bool
+unfolding rangeOk
+opRanges wires terms own nums at = (eqb (getD nums at 0) affineKind || eqb (getD nums at 0) regluKind) && (rangeOk wires terms own nums (at + 1) && rangeOk wires terms own nums (at + 3))
+
+unfoldable pub opsRange : Counts → List ℕ → List ℕ → Bool
+unfolding opRanges all
+opsRange n nums wires = all (λ i. opRanges wires (n .terms) (n .cells + i) nums (opsFrom + 5 * i)) (n .ops)
+
+unfoldable pub outsRange : Counts → List ℕ → List ℕ → Bool
+unfolding rangeOk all
+outsRange n nums wires = all (λ k. rangeOk wires (n .terms) (n .cells + n .ops) nums (outputsFrom + 2 * k)) (outputCount n)
 
 -- where x is counted: at x, if it is below n
 abbrev pub slotOf : ℕ → ℕ → ℕ

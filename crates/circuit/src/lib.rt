@@ -6,11 +6,10 @@ use wire::Op;
 ghost use mathlib.Core.Path.{_≡_};
 ghost use Prim.Native.Nat.{ℕ, _+_, _*_, _≤_, _<_};
 ghost use lib.ListN.{length, getD};
-ghost use Rattle.wire.specs.All.{all};
-ghost use Rattle.wire.specs.Storage.{formAt, opsFrom, opBiasesFrom, outputCount};
+ghost use Rattle.wire.specs.Storage.{opsFrom, opBiasesFrom, outputCount};
 ghost use Rattle.wire.proofs.Stored.{Held};
 ghost use Rattle.circuit.specs.Check.{stored, pairs, risesBelow, eachOnce, circuitOk};
-ghost use Rattle.circuit.specs.Parts.{sizesOk, formOk, opOk, outOk, coefsOk, listsOk, contentsOk, slotOf};
+ghost use Rattle.circuit.specs.Parts.{sizesOk, coefsOk, biasesOk, floatsOk, rangeOk, opRanges, opsRange, outsRange, listsOk, contentsOk, slotOf};
 
 // Whether each of n entries is below the one after it. No way leads out of the loop, so that it is done many at a time.
 fn pairs_rise(list: &[u32], from: usize, n: usize) -> bool
@@ -28,90 +27,97 @@ fn pairs_rise(list: &[u32], from: usize, n: usize) -> bool
     ok
 }
 
-// Whether the form with its range at `at` of nums and its bias at `bias` of biases is one. Since its wires rise, the last alone is held against the limit.
-fn form_ok(
-    nums: &[u32],
-    biases: &[f32],
-    at: usize,
-    bias: usize,
-    wires: &[u32],
-    terms: usize,
-    limit: usize,
-) -> bool
-    requires { ⌜ (at + 1 < length (now nums)) × (bias < length (now biases)) × (terms ≤ length (now wires)) ⌝ }
-    ensures { λ r. ⌜ r ≡ formOk (now (wires .entry)) terms limit (formAt (now (nums .entry)) (now (biases .entry)) at bias) ⌝ }
+// Whether n entries rise strictly, below a limit. Since they rise, the last alone is held against it; and most forms have one term or none.
+fn rises_below(list: &[u32], from: usize, n: usize, limit: usize) -> bool
+    requires { ⌜ from + n ≤ length (now list) ⌝ }
+    ensures { λ r. ⌜ r ≡ risesBelow (now (list .entry)) from n limit ⌝ }
 {
-    let first = pool::wide(nums[at]);
-    let len = pool::wide(nums[at + 1]);
-    if terms < first {
+    if n == 0 {
+        return true;
+    }
+    let last = pool::wide(list[from + n - 1]);
+    if limit <= last {
         return false;
     }
-    if terms - first < len {
-        return false;
+    if n == 1 {
+        return true;
     }
-    let fine = exact::is_small(biases[bias]);
-    if len == 0 {
-        return fine;
-    }
-    let last = pool::wide(wires[first + len - 1]);
-    let rise = pairs_rise(wires, first, len - 1);
-    fine & ((last < limit) & rise)
+    pairs_rise(list, from, n - 1)
 }
 
-fn op_ok(
-    counts: Counts,
-    nums: &[u32],
-    biases: &[f32],
-    wires: &[u32],
-    coefs: &[f32],
-    i: usize,
-) -> bool
-    requires { ⌜ Held counts (length (now nums)) (length (now biases)) (length (now wires)) (length (now coefs)) ⌝ }
-    requires { ⌜ (i < counts .ops) × (counts .cells ≤ 640) ⌝ }
-    ensures { λ r. ⌜ r ≡ opOk (stored counts (now (nums .entry)) (now (biases .entry)) (now (wires .entry)) (now (coefs .entry))) i ⌝ }
+// Where a range ends.
+fn past(first: u32, len: u32) -> usize
+    ensures { λ r. ⌜ r ≡ first + len ⌝ }
+{
+    (first as usize) + (len as usize)
+}
+
+// Whether the range at an index of nums is inside the terms in use, and its wires rise below a limit.
+fn range_ok(nums: &[u32], at: usize, wires: &[u32], terms: usize, limit: usize) -> bool
+    requires { ⌜ (at + 1 < length (now nums)) × (terms ≤ length (now wires)) ⌝ }
+    ensures { λ r. ⌜ r ≡ rangeOk (now (wires .entry)) terms limit (now (nums .entry)) at ⌝ }
+{
+    let first = nums[at];
+    let len = nums[at + 1];
+    let end = past(first, len);
+    if terms < end {
+        return false;
+    }
+    rises_below(wires, first as usize, len as usize, limit)
+}
+
+fn op_ok(nums: &[u32], at: usize, wires: &[u32], terms: usize, own: usize) -> bool
+    requires { ⌜ (at + 4 < length (now nums)) × (terms ≤ length (now wires)) ⌝ }
+    ensures { λ r. ⌜ r ≡ opRanges (now (wires .entry)) terms own (now (nums .entry)) at ⌝ }
+{
+    let kind = nums[at];
+    let known = (kind == Op::AFFINE) | (kind == Op::REGLU);
+    if !known {
+        return false;
+    }
+    let left = range_ok(nums, at + 1, wires, terms, own);
+    if !left {
+        return false;
+    }
+    range_ok(nums, at + 3, wires, terms, own)
+}
+
+// The kinds and ranges of all ops, up to the first that is not one.
+fn ops_ok(counts: Counts, nums: &[u32], wires: &[u32]) -> bool
+    requires { ⌜ (opsFrom + 5 * counts .ops ≤ length (now nums)) × (counts .terms ≤ length (now wires)) × (counts .cells ≤ 640) ⌝ }
+    ensures { λ r. ⌜ r ≡ opsRange counts (now (nums .entry)) (now (wires .entry)) ⌝ }
 {
     let terms = counts.terms;
-    let own = counts.cells + i;
-    let at = Nums::OPS + 5 * i;
-    let bias = Biases::OPS + 2 * i;
-    let kind = nums[at];
-    let left = form_ok(nums, biases, at + 1, bias, wires, terms, own);
-    let gate = form_ok(nums, biases, at + 3, bias + 1, wires, terms, own);
-    ((kind == Op::AFFINE) | (kind == Op::REGLU)) & (left & gate)
-}
-
-fn ops_ok(counts: Counts, nums: &[u32], biases: &[f32], wires: &[u32], coefs: &[f32]) -> bool
-    requires { ⌜ Held counts (length (now nums)) (length (now biases)) (length (now wires)) (length (now coefs)) ⌝ }
-    requires { ⌜ counts .cells ≤ 640 ⌝ }
-    ensures { λ r. ⌜ r ≡ all (opOk (stored counts (now (nums .entry)) (now (biases .entry)) (now (wires .entry)) (now (coefs .entry)))) (counts .ops) ⌝ }
-{
+    let cells = counts.cells;
     let ops = counts.ops;
-    let mut ok = true;
     let mut i = 0usize;
     while i < ops {
-        let fine = op_ok(counts, nums, biases, wires, coefs, i);
-        ok = ok & fine;
+        let fine = op_ok(nums, Nums::OPS + 5 * i, wires, terms, cells + i);
+        if !fine {
+            return false;
+        }
         i += 1;
     }
-    ok
+    true
 }
 
-fn outs_ok(counts: Counts, nums: &[u32], biases: &[f32], wires: &[u32], coefs: &[f32]) -> bool
-    requires { ⌜ Held counts (length (now nums)) (length (now biases)) (length (now wires)) (length (now coefs)) ⌝ }
-    requires { ⌜ (counts .cells ≤ 640) × (outputCount counts ≤ 896) ⌝ }
-    ensures { λ r. ⌜ r ≡ all (outOk (stored counts (now (nums .entry)) (now (biases .entry)) (now (wires .entry)) (now (coefs .entry)))) (outputCount counts) ⌝ }
+// The ranges of all output forms, likewise.
+fn outs_ok(counts: Counts, nums: &[u32], wires: &[u32]) -> bool
+    requires { ⌜ (opsFrom + 5 * counts .ops ≤ length (now nums)) × (counts .terms ≤ length (now wires)) × (counts .cells ≤ 640) × (outputCount counts ≤ 896) ⌝ }
+    ensures { λ r. ⌜ r ≡ outsRange counts (now (nums .entry)) (now (wires .entry)) ⌝ }
 {
     let terms = counts.terms;
     let end = counts.cells + counts.ops;
     let outs = 6 * counts.nodes + counts.cursors;
-    let mut ok = true;
     let mut k = 0usize;
     while k < outs {
-        let fine = form_ok(nums, biases, Nums::OUTPUTS + 2 * k, k, wires, terms, end);
-        ok = ok & fine;
+        let fine = range_ok(nums, Nums::OUTPUTS + 2 * k, wires, terms, end);
+        if !fine {
+            return false;
+        }
         k += 1;
     }
-    ok
+    true
 }
 
 // Every coefficient of the terms in use, in one pass with no way out of it.
@@ -129,17 +135,33 @@ fn coefs_ok(coefs: &[f32], terms: usize) -> bool
     ok
 }
 
-// Whether n entries rise strictly, below the node count.
-fn list_ok(nums: &[u32], from: usize, n: usize, nodes: usize) -> bool
-    requires { ⌜ from + n ≤ length (now nums) ⌝ }
-    ensures { λ r. ⌜ r ≡ risesBelow (now (nums .entry)) from n nodes ⌝ }
+// Each of n biases from an index on, likewise.
+fn biases_ok(biases: &[f32], from: usize, n: usize) -> bool
+    requires { ⌜ from + n ≤ length (now biases) ⌝ }
+    ensures { λ r. ⌜ r ≡ biasesOk (now (biases .entry)) from n ⌝ }
 {
-    if n == 0 {
-        return true;
+    let mut ok = true;
+    let mut i = 0usize;
+    while i < n {
+        let fine = exact::is_small(biases[from + i]);
+        ok = ok & fine;
+        i += 1;
     }
-    let last = pool::wide(nums[from + n - 1]);
-    let rise = pairs_rise(nums, from, n - 1);
-    (last < nodes) & rise
+    ok
+}
+
+// All floats in use: coefficients, the outputs' biases, the ops'.
+fn floats_ok(counts: Counts, biases: &[f32], coefs: &[f32]) -> bool
+    requires { ⌜ (opBiasesFrom + 2 * counts .ops ≤ length (now biases)) × (counts .terms ≤ length (now coefs)) × (outputCount counts ≤ 896) ⌝ }
+    ensures { λ r. ⌜ r ≡ floatsOk counts (now (biases .entry)) (now (coefs .entry)) ⌝ }
+{
+    let terms = counts.terms;
+    let outs = 6 * counts.nodes + counts.cursors;
+    let ops = 2 * counts.ops;
+    let weights = coefs_ok(coefs, terms);
+    let of_outs = biases_ok(biases, 0, outs);
+    let of_ops = biases_ok(biases, Biases::OPS, ops);
+    weights & (of_outs & of_ops)
 }
 
 // x below n, and 128 otherwise.
@@ -154,7 +176,7 @@ fn once_ok(nums: &[u32], from: usize, n: usize) -> bool
     requires { ⌜ (from + n ≤ length (now nums)) × (n ≤ 128) ⌝ }
     ensures { λ r. ⌜ r ≡ eachOnce (now (nums .entry)) from n ⌝ }
 {
-    let mut seen = [0u32; 129];
+    let mut seen = [0u8; 129];
     let mut i = 0usize;
     while i < n {
         let v = slot(pool::wide(nums[from + i]), n);
@@ -175,8 +197,8 @@ fn lists_ok(counts: Counts, nums: &[u32]) -> bool
     ensures { λ r. ⌜ r ≡ listsOk counts (now (nums .entry)) ⌝ }
 {
     let nodes = counts.nodes;
-    let leaves = list_ok(nums, Nums::LEAVES, counts.leaves, nodes);
-    let cursors = list_ok(nums, Nums::CURSORS, counts.cursors, nodes);
+    let leaves = rises_below(nums, Nums::LEAVES, counts.leaves, nodes);
+    let cursors = rises_below(nums, Nums::CURSORS, counts.cursors, nodes);
     let report = once_ok(nums, Nums::REPORT, nodes);
     leaves & (cursors & report)
 }
@@ -208,12 +230,11 @@ fn contents_ok(counts: Counts, nums: &[u32], biases: &[f32], wires: &[u32], coef
     requires { ⌜ (counts .nodes ≤ 128) × (counts .cursors ≤ 128) × (counts .leaves ≤ 128) × (counts .cells ≤ 640) ⌝ }
     ensures { λ r. ⌜ r ≡ contentsOk (stored counts (now (nums .entry)) (now (biases .entry)) (now (wires .entry)) (now (coefs .entry))) ⌝ }
 {
-    let terms = counts.terms;
-    let weights = coefs_ok(coefs, terms);
-    let ops = ops_ok(counts, nums, biases, wires, coefs);
-    let outs = outs_ok(counts, nums, biases, wires, coefs);
+    let floats = floats_ok(counts, biases, coefs);
+    let ops = ops_ok(counts, nums, wires);
+    let outs = outs_ok(counts, nums, wires);
     let lists = lists_ok(counts, nums);
-    weights & (ops & (outs & lists))
+    floats & (ops & (outs & lists))
 }
 
 // Whether this is a circuit: where it is not, 17.

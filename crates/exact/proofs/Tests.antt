@@ -4,22 +4,21 @@ use mathlib.Core.Path.{_≡_, refl, sym, ap, _∙_, subst}
 use mathlib.Core.Logic.{_⊎_, inl, inr}
 use mathlib.Core.Bool.{Bool, true, false, not, _&&_, _||_, Bool·beq, cond}
 use Prim.Native.Nat.{ℕ, zero, suc, _+_, _-_, _*_, _/_, _%_, _^_, _≤_, _<_}
-use native.Mathlib.Nat.{div-add-mod', add-zero, zero-div, zero-mod, mul-one, one-mul, zero-mul, mul-assoc, mul-right-comm, eq-of-mul-eq-mul-right, div-eq-of-eq-mul-left, mod-one, mod-le, zero-lt-suc, lt-of-le-of-lt, lt-of-lt-of-le, le-trans, le-of-eq, not-le-of-lt, eq-zero-or-pos, mul-mod-left}
+use native.Mathlib.Nat.{div-add-mod', add-zero, zero-div, mul-one, one-mul, zero-mul, mul-right-comm, eq-of-mul-eq-mul-right, div-eq-of-eq-mul-left, le-trans, eq-zero-or-pos, mul-mod-left}
 use native.Mathlib.Omega.{arith}
-use lib.IntN.{ℤ, pos, negsuc}
-use lib.Dec.{T, ltb, leb, eqb, ltb→lt, nltb→le, eqb→eq, leb→le, nleb→lt}
-use lib.Pow.{pow-add, pow-pos, pow-lt, pow-mono, shl-lt}
-use lib.Ieee.{Float, nan, inf, fin, Format, binary32, prec, emax, low, up, down, round, add, lt, le, eq, rem, fits, ofBits, level, below}
-use lib.Ieee.Fits.{down-pos, up-pos, and-i, and-l, and-r, eq→eqb, reach}
-use lib.Ieee.Digits.{back}
-use lib.Ieee.Exact.{HasValue, round-exact}
+use lib.IntN.{ℤ, pos}
+use lib.Dec.{T, ltb, leb, eqb, ltb→lt, nltb→le, eqb→eq, leb→le}
+use lib.Pow.{pow-pos}
+use lib.Ieee.{Float, nan, inf, fin, Format, binary32, prec, up, down, round, add, lt, le, eq, fits, ofBits, level, below}
+use lib.Ieee.Fits.{down-pos, up-pos, and-i, and-l, and-r, eq→eqb}
+use lib.Ieee.Exact.{HasValue}
 use lib.Ieee.Back.{whole-unique}
-use borrow.Author.Tests.{lt-ltb, le-ltb}
-use Rattle.exact.specs.Whole.{dist, diff, Within, zero32, one32}
+use borrow.Author.Tests.{lt-ltb}
+use Rattle.exact.specs.Whole.{diff, Within, zero32, one32}
 use Rattle.exact.specs.Tests.{isBit, natural, relu, wholeSize}
-use Rattle.exact.proofs.Whole.{Worth, diff-value, add-diff, lt-diff, le-at, worth-of, diff-unique, diff-same, diff-fits, same-test, zero-is}
+use Rattle.exact.proofs.Whole.{Worth, diff-value, count-value, add-diff, lt-diff, le-at, diff-unique, diff-same, same-test, zero-is}
 
-abbrev pub minusZero : Float
+abbrev minusZero : Float
 minusZero = fin true 0 (pos 0)
 
 -- x is the number n: its float, or n is 0 and x is -0
@@ -37,7 +36,7 @@ unfolding fits
 minus-zero-fits f = tt
 
 -- of size 0 and negative: that is -0
-pub minus-zero : (f : Format) (x : Float) → T (fits f x) → HasValue x true 0 1 → x ≡ minusZero
+minus-zero : (f : Format) (x : Float) → T (fits f x) → HasValue x true 0 1 → x ≡ minusZero
 minus-zero f x t v = whole-unique f x minusZero true 0 t (minus-zero-fits f) v (refl, refl)
 
 pub counts : (f : Format) (x : Float) (n : ℕ) → n ≤ 2 ^ prec f → T (fits f x) → Natural x n → Counts f x n
@@ -56,7 +55,7 @@ counts-natural f x n h (inr e) =
 
 -- ---- what `==` tells of a float that is equal to a whole number
 
-eq-has : (x y : Float) (t : Bool) (b : ℕ) → HasValue y t b 1 → T (eq x y) → HasValue x t b 1 ⊎ ((s : Bool) × (b ≡ 0) × HasValue x s 0 1)
+pub eq-has : (x y : Float) (t : Bool) (b : ℕ) → HasValue y t b 1 → T (eq x y) → HasValue x t b 1 ⊎ ((s : Bool) × (b ≡ 0) × HasValue x s 0 1)
 unfolding eq
 eq-has nan y t b v h = absurd h
 eq-has (inf s) (fin t' n d) t b v h = absurd h
@@ -74,23 +73,9 @@ eq-has (fin s m e) (fin t' n d) t b v h =
     go val false true u z k g = inr (false, k g, (refl, val ∙ ap (λ (x : ℕ). x * down e) (k g)))
     go val true false u z k g = inr (true, k g, (refl, val ∙ ap (λ (x : ℕ). x * down e) (k g)))
 
--- x equals p - q: it is that float, or both are zeros and x is -0
-pub eq-is : (f : Format) (x : Float) (p q : ℕ) → T (fits f x) → Within f p q → T (eq x (diff f p q)) → (x ≡ diff f p q) ⊎ ((p ≡ q) × (x ≡ minusZero))
-eq-is f x p q t h e = go (eq-has x (diff f p q) (ltb p q) (dist p q) (diff-value f p q h) e)
-  where
-    go2 : p ≡ q → (r : Bool) → HasValue x r 0 1 → (x ≡ diff f p q) ⊎ ((p ≡ q) × (x ≡ minusZero))
-    go2 z true v = inr (z, minus-zero f x t v)
-    go2 z false v =
-        inl (whole-unique f x (diff f p q) false 0 t (diff-fits f p q) v
-        (subst (λ (b : Bool). HasValue (diff f p q) b 0 1) (le-ltb p q (omega arith)) (subst (λ (n : ℕ). HasValue (diff f p q) (ltb p q) n 1) (omega arith) (diff-value f p q h))))
-
-    go : HasValue x (ltb p q) (dist p q) 1 ⊎ ((r : Bool) × (dist p q ≡ 0) × HasValue x r 0 1) → (x ≡ diff f p q) ⊎ ((p ≡ q) × (x ≡ minusZero))
-    go (inl v) = inl (whole-unique f x (diff f p q) (ltb p q) (dist p q) t (diff-fits f p q) v (diff-value f p q h))
-    go (inr w) = let z = w .1 in go2 (omega arith) (w .0) (w .2)
-
 -- ---- a bit: the test `x == 0.0 || x == 1.0`
 
-zero-test : (z : Float) (s : Bool) (r d : ℕ) → 0 < d → HasValue z s r d → eq z zero32 ≡ eqb r 0
+pub zero-test : (z : Float) (s : Bool) (r d : ℕ) → 0 < d → HasValue z s r d → eq z zero32 ≡ eqb r 0
 unfolding eq ofBits
 zero-test (fin s' m e) s r d p v = same-test (level s' (m * up e * 1) false (0 * down e)) (eqb r 0) to from
   where
@@ -157,7 +142,7 @@ is-bit f x n h c = let w = counts-natural f x n (le-trans h (pow-pos (prec f))) 
         bit (suc zero) true h z q v = let k : _≡_ {A = ℕ} 1 0 = z tt in absurd (omega arith)
         bit (suc (suc n)) s h z q v = absurd (omega arith)
 
--- ---- a natural number: the test `x >= 0.0 && x % 1.0 == 0.0`
+-- ---- a natural number
 
 -- where the sign says so, the number is 0
 signed : (s : Bool) (m : ℕ) → T s → T (not s || eqb m 0) → T (eqb m 0)
@@ -195,57 +180,20 @@ pub whole-size : (x : Float) (s : Bool) (n : ℕ) → HasValue x s n 1 → whole
 unfolding wholeSize
 whole-size (fin s' m e) s n v = div-eq-of-eq-mul-left (down-pos e) (sym (mul-one (m * up e)) ∙ v .1)
 
--- one against k
+-- one against k, and k against one
+natural-worth : (n : ℕ) (s : Bool) → (T s → n ≡ 0) → Worth s n n 0
+natural-worth n false z = omega arith
+natural-worth n true z = let g = z tt in omega arith
+
 pub natural-le : (f : Format) (k : ℕ) → k ≤ 2 ^ prec f → (x : Float) (n : ℕ) → Natural x n → le x (diff f k 0) ≡ leb n k
 natural-le f k K x n w =
-    le-at x (diff f k 0) (w .sign) (ltb k 0) n (dist k 0) n 0 k 0 (w .value) (diff-value f k 0 (omega arith)) (worth (w .sign) (w .nought)) (worth-of k 0)
+    le-at x (diff f k 0) (w .sign) false n k n 0 k 0 (w .value) (count-value f k K) (natural-worth n (w .sign) (w .nought)) (omega arith)
     ∙ (λ i. leb (add-zero n i) (add-zero k i))
-  where
-    worth : (s : Bool) → (T s → n ≡ 0) → Worth s n n 0
-    worth false z = omega arith
-    worth true z = let g = z tt in omega arith
 
-pub natural-diff : (f : Format) (k : ℕ) → k ≤ 2 ^ prec f → (x : Float) → T (fits f x) → T (natural x) → T (le x (diff f k 0)) → (n : ℕ) × (n ≤ k) × Counts f x n
-natural-diff f k K x t h l =
-    let w = natural-is x h in
-    let b = leb→le (w .0) k (subst T (natural-le f k K x (w .0) (w .1)) l) in
-    (w .0, b, counts f x (w .0) (le-trans b K) t (w .1))
-
--- a remainder by 1 of a value that fits is exact
-rem-one : (f : Format) (s : Bool) (m : ℕ) (e : ℤ) → rem f (fin s m e) one32 ≡ round f s (m * up e % down e) (down e)
-unfolding rem ofBits
-rem-one f s m e = λ i. round f s (mul-one (m * up e) i % one-mul (down e) i) (mul-one (down e) i)
-
-round-nought : (f : Format) (s : Bool) (d : ℕ) → 0 < d → HasValue (round f s 0 d) s 0 d
-round-nought f s d p = round-exact f s 0 d 0 0 p (pow-pos (prec f)) (pow-pos (low f + suc (emax f))) (zero-mul (2 ^ low f) ∙ sym (zero-mul d))
-
-pow-le-back : (a b : ℕ) → 2 ^ a ≤ 2 ^ b → a ≤ b
-pow-le-back a b h = go (leb a b) (leb→le a b) (nleb→lt a b)
-  where
-    go : (t : Bool) → (T t → a ≤ b) → (T (not t) → b < a) → a ≤ b
-    go true y n = y tt
-    go false y n = absurd (not-le-of-lt (pow-lt (n tt)) h)
-
-round-part : (f : Format) (s : Bool) (r k : ℕ) → r < 2 ^ prec f → suc k ≤ low f → HasValue (round f s r (2 ^ suc k)) s r (2 ^ suc k)
-round-part f s r k h l =
-    let j = low f - suc k in
-    round-exact f s r (2 ^ suc k) r j (pow-pos (suc k)) h
-    (lt-of-lt-of-le (shl-lt (prec f) j h) (pow-mono (room (prec f) (low f) (suc k) (suc (emax f)) (reach f))))
-    (ap (λ (z : ℕ). r * 2 ^ z) (sym (back (low f) (suc k) l)) ∙ ap (λ (z : ℕ). r * z) (pow-add 2 j (suc k)) ∙ sym (mul-assoc r (2 ^ j) (2 ^ suc k)))
-  where
-    room : (p l k e : ℕ) → p ≤ e → p + (l - k) ≤ l + e
-    room p l k e g = omega arith
-
-rem-value : (f : Format) (s : Bool) (m : ℕ) (e : ℤ) → T (fits f (fin s m e)) → HasValue (round f s (m * up e % down e) (down e)) s (m * up e % down e) (down e)
-unfolding fits
-rem-value f s m (pos k) t = subst (λ (r : ℕ). HasValue (round f s r 1) s r 1) (sym (mod-one (m * 2 ^ k))) (round-nought f s 1 (zero-lt-suc 0))
-rem-value f s zero (negsuc k) t = subst (λ (r : ℕ). HasValue (round f s r (2 ^ suc k)) s r (2 ^ suc k)) (sym (zero-mod (2 ^ suc k))) (round-nought f s (2 ^ suc k) (pow-pos (suc k)))
-rem-value f s (suc m) (negsuc k) t =
-    let small : T (ltb (suc m) (2 ^ prec f)) = search (and-l, and-r) in
-    let deep : T (leb (2 ^ suc k) (2 ^ low f)) = search (and-l, and-r) in
-    round-part f s (suc m * 1 % 2 ^ suc k) k
-    (lt-of-le-of-lt (le-trans (mod-le (suc m * 1) (2 ^ suc k)) (le-of-eq (mul-one (suc m)))) (ltb→lt (suc m) (2 ^ prec f) small))
-    (pow-le-back (suc k) (low f) (leb→le (2 ^ suc k) (2 ^ low f) deep))
+pub le-natural : (f : Format) (k : ℕ) → k ≤ 2 ^ prec f → (x : Float) (n : ℕ) → Natural x n → le (diff f k 0) x ≡ leb k n
+le-natural f k K x n w =
+    le-at (diff f k 0) x false (w .sign) k n k 0 n 0 (count-value f k K) (w .value) (omega arith) (natural-worth n (w .sign) (w .nought))
+    ∙ (λ i. leb (add-zero k i) (add-zero n i))
 
 floor-test : (s : Bool) (m : ℕ) (e : ℤ) → le zero32 (fin s m e) ≡ (not s || eqb m 0)
 unfolding le ofBits
@@ -260,13 +208,6 @@ floor-test true m e = ap (λ (z : ℕ). level false z true (m * up e * 1)) (zero
 
     from : T (eqb m 0) → T (eqb 0 (m * up e * 1) && true)
     from t = and-i (eqb 0 (m * up e * 1)) true (eq→eqb (sym (mul-one (m * up e) ∙ ap (λ (z : ℕ). z * up e) (eqb→eq m 0 t) ∙ zero-mul (up e)))) tt
-
-pub natural-test : (f : Format) (x : Float) → T (fits f x) → le zero32 x && eq (rem f x one32) zero32 ≡ natural x
-unfolding natural
-natural-test f nan t = unfold le ofBits in refl
-natural-test f (inf true) t = unfold le rem ofBits in refl
-natural-test f (inf false) t = unfold le rem ofBits in refl
-natural-test f (fin s m e) t = λ i. floor-test s m e i && (ap (λ (z : Float). eq z zero32) (rem-one f s m e) ∙ zero-test (round f s (m * up e % down e) (down e)) s (m * up e % down e) (down e) (down-pos e) (rem-value f s m e t)) i
 
 -- a natural number is not below zero
 pub natural-floor : (x : Float) → T (natural x) → T (le zero32 x)

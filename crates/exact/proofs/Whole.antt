@@ -142,6 +142,9 @@ pub diff-value : (f : Format) (p q : ℕ) → Within f p q → HasValue (diff f 
 unfolding diff
 diff-value f p q h = round-whole f (ltb p q) (dist p q) (omega arith)
 
+pub count-value : (f : Format) (n : ℕ) → n ≤ 2 ^ prec f → HasValue (diff f n 0) false n 1
+count-value f n h = subst (λ (x : Float). HasValue x false n 1) (round-diff f false n n 0 (omega arith) (λ t. absurd t)) (round-whole f false n h)
+
 sum-diff : (f : Format) (s t : Bool) (a b p q r u : ℕ) → Worth s a p q → Worth t b r u → (T s → T t → 0 < a + b) → sum f s a t b 1 ≡ diff f (p + r) (q + u)
 unfolding sum
 sum-diff f false false a b p q r u v w z = round-diff f false (a + b) (p + r) (q + u) (omega arith) (λ t. absurd t)
@@ -172,10 +175,13 @@ pos-of p q t = let h = ltb→lt p q t in omega arith
 
 -- ---- sums and products
 
+-- of any two floats that are worth p - q and r - u, and are not -0 both
+pub add-worth : (f : Format) (x y : Float) (s t : Bool) (a b p q r u : ℕ) → HasValue x s a 1 → HasValue y t b 1 → Worth s a p q → Worth t b r u → (T s → T t → 0 < a + b) → add f x y ≡ diff f (p + r) (q + u)
+add-worth f x y s t a b p q r u v w g h z = add-at f x y s t a b v w ∙ sum-diff f s t a b p q r u g h z
+
 pub add-diff : (f : Format) (p q r u : ℕ) → Within f p q → Within f r u → add f (diff f p q) (diff f r u) ≡ diff f (p + r) (q + u)
 add-diff f p q r u h k =
-    add-at f (diff f p q) (diff f r u) (ltb p q) (ltb r u) (dist p q) (dist r u) (diff-value f p q h) (diff-value f r u k)
-    ∙ sum-diff f (ltb p q) (ltb r u) (dist p q) (dist r u) p q r u (worth-of p q) (worth-of r u) (λ s t. let g = pos-of p q s in omega arith)
+    add-worth f (diff f p q) (diff f r u) (ltb p q) (ltb r u) (dist p q) (dist r u) p q r u (diff-value f p q h) (diff-value f r u k) (worth-of p q) (worth-of r u) (λ s t. let g = pos-of p q s in omega arith)
 
 -- the sign and the size of a product, and that it is in range
 product-le : (f : Format) (s : Bool) (n p q : ℕ) → Worth s n p q → Within f p q → n ≤ 2 ^ prec f
@@ -270,10 +276,12 @@ lt-diff f p q r u h k =
     below-at (diff f p q) (diff f r u) (ltb p q) (ltb r u) (dist p q) (dist r u) (diff-value f p q h) (diff-value f r u k)
     ∙ below-worth (ltb p q) (ltb r u) (dist p q) (dist r u) p q r u (worth-of p q) (worth-of r u)
 
+-- of any two floats that are worth p - q and r - u, with either sign of zero
+pub eq-at : (x y : Float) (s t : Bool) (a b p q r u : ℕ) → HasValue x s a 1 → HasValue y t b 1 → Worth s a p q → Worth t b r u → eq x y ≡ eqb (p + u) (r + q)
+eq-at x y s t a b p q r u v w g h = level-at x y s t a b v w ∙ level-worth s t a b p q r u g h
+
 pub eq-diff : (f : Format) (p q r u : ℕ) → Within f p q → Within f r u → eq (diff f p q) (diff f r u) ≡ eqb (p + u) (r + q)
-eq-diff f p q r u h k =
-    level-at (diff f p q) (diff f r u) (ltb p q) (ltb r u) (dist p q) (dist r u) (diff-value f p q h) (diff-value f r u k)
-    ∙ level-worth (ltb p q) (ltb r u) (dist p q) (dist r u) p q r u (worth-of p q) (worth-of r u)
+eq-diff f p q r u h k = eq-at (diff f p q) (diff f r u) (ltb p q) (ltb r u) (dist p q) (dist r u) p q r u (diff-value f p q h) (diff-value f r u k) (worth-of p q) (worth-of r u)
 
 leb-split : (x y : ℕ) → ltb x y || eqb x y ≡ leb x y
 leb-split x y = same-test (ltb x y || eqb x y) (leb x y) (λ t. le→leb x y (down1 (ltb x y) (eqb x y) (ltb→lt x y) (eqb→eq x y) t)) (λ t. up1 (leb→le x y t) (ltb x y) (nltb→le x y))
@@ -286,11 +294,10 @@ leb-split x y = same-test (ltb x y || eqb x y) (leb x y) (λ t. le→leb x y (do
     up1 h true k = tt
     up1 h false k = let g = k tt in let e : x ≡ y = omega arith in eq→eqb e
 
--- of any two floats that are worth p - q and r - u, with either sign of zero
 pub le-at : (x y : Float) (s t : Bool) (a b p q r u : ℕ) → HasValue x s a 1 → HasValue y t b 1 → Worth s a p q → Worth t b r u → le x y ≡ leb (p + u) (r + q)
 unfolding le
 le-at x y s t a b p q r u v w g h =
-    (λ i. (below-at x y s t a b v w ∙ below-worth s t a b p q r u g h) i || (level-at x y s t a b v w ∙ level-worth s t a b p q r u g h) i) ∙ leb-split (p + u) (r + q)
+    (λ i. (below-at x y s t a b v w ∙ below-worth s t a b p q r u g h) i || eq-at x y s t a b p q r u v w g h i) ∙ leb-split (p + u) (r + q)
 
 pub le-diff : (f : Format) (p q r u : ℕ) → Within f p q → Within f r u → le (diff f p q) (diff f r u) ≡ leb (p + u) (r + q)
 le-diff f p q r u h k = le-at (diff f p q) (diff f r u) (ltb p q) (ltb r u) (dist p q) (dist r u) p q r u (diff-value f p q h) (diff-value f r u k) (worth-of p q) (worth-of r u)

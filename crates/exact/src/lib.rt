@@ -35,15 +35,21 @@ pub fn is_bit(x: f32) -> bool
     x == 0.0 || x == 1.0
 }
 
-// Whether x is a natural number.
+// Whether x is a natural number. From 2^23 on a finite float has no fraction, and an infinity times 0.0 is NaN.
+// Below that, adding 2^23 rounds x to a whole number. A negative x gives a sum below 2^23, or 2^23 itself, which does not give x back.
+// With no remainder, which would be a call of the C library.
 pub fn is_natural(x: f32) -> bool
     ensures { λ r. ⌜ r ≡ natural x ⌝ }
 {
-    x >= 0.0 && x % 1.0 == 0.0
+    if 8388608.0 <= x {
+        return x * 0.0 == 0.0;
+    }
+    let y = x + 8388608.0;
+    (8388608.0 <= y) & ((y <= 16777216.0) & (x == y - 8388608.0))
 }
 
 // Whether x is whole and at most 65,536 in size. Near 1.5 * 2^23 a float has no fraction, so adding that number rounds x to a whole one.
-// With no branch, and no remainder, which would be a call: a tick asks this of every coefficient.
+// With no branch: a tick asks this of every coefficient.
 pub fn is_small(x: f32) -> bool
     ensures { λ r. ⌜ r ≡ small x ⌝ }
 {

@@ -13,6 +13,7 @@ ghost use Rattle.fill.specs.Fill.{prefix};
 ghost use Rattle.answers.specs.Answers.{statusAt, haltAt, flagAt, edgeAt, cursorAt};
 ghost use Rattle.circuit.specs.Check.{stored};
 ghost use Rattle.circuit.proofs.Checked.{Checked};
+ghost use Rattle.evaluate.specs.Evaluate.{outsOf};
 ghost use Rattle.lane.specs.Lane.{firstAbove, inputsOf, lent, outcome, settleOf, laneOf};
 
 // What a tick answers: each refusal with its place, a broken invariant with the case and the offending float.
@@ -119,7 +120,44 @@ fn settle(
     Ticked::Accepted
 }
 
-// One tick of one part.
+// What is left of a tick once the value table stands: the output values, read into a room that holds them, and what follows of them.
+fn finish(
+    room: &mut [f32],
+    counts: Counts,
+    nums: &[u32],
+    biases: &[f32],
+    wires: &[u32],
+    coefs: &[f32],
+    table: &[f32],
+    flags: &mut [u8],
+    cursors: &mut [u32],
+    statuses: &mut [u8],
+    halts: &mut [u8],
+    edges: &mut [u8],
+) -> Ticked
+    requires { ⌜ Checked (stored counts (now nums) (now biases) (now wires) (now coefs)) ⌝ }
+    requires { ⌜ (outputCount counts ≤ length (now room)) × (counts .cells + counts .ops ≤ length (now table)) × (counts .nodes ≤ length (now flags)) × (counts .cursors ≤ length (now cursors)) ⌝ }
+    requires { ⌜ (counts .nodes ≤ length (now statuses)) × (counts .nodes ≤ length (now halts)) × (counts .leaves ≤ length (now edges)) ⌝ }
+    ensures { λ r. ⌜ ((values : List Float) → outcome r (lent (now (flags .exit)) (now (cursors .exit)) values (now (statuses .exit)) (now (halts .exit)) (now (edges .exit)))
+        ≡ settleOf counts (now (nums .entry)) (outsOf (stored counts (now (nums .entry)) (now (biases .entry)) (now (wires .entry)) (now (coefs .entry))) (now (table .entry)))
+        (lent (now (flags .entry)) (now (cursors .entry)) values (now (statuses .entry)) (now (halts .entry)) (now (edges .entry)))) ⌝ }
+{
+    let n = 6 * counts.nodes + counts.cursors;
+    evaluate::read_outs(room, counts, nums, biases, wires, coefs, table);
+    settle(
+        counts,
+        nums,
+        room,
+        n,
+        flags,
+        cursors,
+        statuses,
+        halts,
+        edges,
+    )
+}
+
+// One tick of one part. A room is zeroed in each tick, so that a small tree gets a small one.
 pub fn lane(
     counts: Counts,
     nums: &[u32],
@@ -145,8 +183,6 @@ pub fn lane(
     let Ticked::Accepted = given else {
         return given;
     };
-    let n = 6 * counts.nodes + counts.cursors;
-    let mut room = [0.0f32; 896];
     evaluate::fill_table(
         values,
         counts,
@@ -158,12 +194,33 @@ pub fn lane(
         flags,
         cursors,
     );
-    evaluate::read_outs(&mut room, counts, nums, biases, wires, coefs, values);
-    settle(
+    let n = 6 * counts.nodes + counts.cursors;
+    if n <= 64 {
+        let mut few = [0.0f32; 64];
+        return finish(
+            &mut few,
+            counts,
+            nums,
+            biases,
+            wires,
+            coefs,
+            values,
+            flags,
+            cursors,
+            statuses,
+            halts,
+            edges,
+        );
+    }
+    let mut room = [0.0f32; 896];
+    finish(
+        &mut room,
         counts,
         nums,
-        &room,
-        n,
+        biases,
+        wires,
+        coefs,
+        values,
         flags,
         cursors,
         statuses,

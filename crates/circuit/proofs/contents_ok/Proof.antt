@@ -1,12 +1,11 @@
 -- `circuit::contents_ok` meets its contract. Assumes nothing.
-use mathlib.Core.Bool.{_&&_}
 use borrow.Author.Needs.{needs}
-use Rattle.circuit.specs.Parts.{contentsOk}
+use Rattle.circuit.proofs.Passes.{passes-are}
 use Rattle.circuit.proofs.contents_ok.Statement.{statement}
 use Rattle.circuit.proofs.contents_ok.Tie as tie
 
-coefs-ok-requires : tie.Need-coefs-ok-requires
-coefs-ok-requires c κs = search needs
+floats-ok-requires : tie.Need-floats-ok-requires
+floats-ok-requires c κs = search needs
 
 ops-ok-requires : tie.Need-ops-ok-requires
 ops-ok-requires c κs = search needs
@@ -18,10 +17,9 @@ lists-ok-requires : tie.Need-lists-ok-requires
 lists-ok-requires c κs = search needs
 
 returns : tie.Need-returns
-unfolding contentsOk
-returns c = λ j. c .before .before .before .coefs-ok .ensures j && (c .before .before .ops-ok .ensures j && (c .before .outs-ok .ensures j && c .lists-ok .ensures j))
+returns c = passes-are _ (c .before .before .before .floats-ok .ensures) (c .before .before .ops-ok .ensures) (c .before .outs-ok .ensures) (c .lists-ok .ensures)
 
 pub contents-ok-spec : {M : Type 1} → statement M
 contents-ok-spec =
     tie.close
-    (tie.spec coefs-ok-requires ops-ok-requires outs-ok-requires lists-ok-requires returns)
+    (tie.spec floats-ok-requires ops-ok-requires outs-ok-requires lists-ok-requires returns)

@@ -51,17 +51,11 @@ wide-requires c κs = search needs
 slot-requires : tie.Need-slot-requires Inv-loop μ-loop Inv-loop2 μ-loop2
 slot-requires c κs = search needs
 
-mul-seen : tie.Need-mul-seen Inv-loop μ-loop Inv-loop2 μ-loop2
-mul-seen c = let b = slot-there c in omega arith
-
 array-read-seen : tie.Need-array-read-seen Inv-loop μ-loop Inv-loop2 μ-loop2
 array-read-seen c = let b = slot-there c in omega arith
 
 add-seen : tie.Need-add-seen Inv-loop μ-loop Inv-loop2 μ-loop2
 add-seen c = let b = c .before .before .before .before .loop .inv .3 (c .slot .result) in omega arith
-
-mul-seen-2 : tie.Need-mul-seen-2 Inv-loop μ-loop Inv-loop2 μ-loop2
-mul-seen-2 c = let b = slot-there c in omega arith
 
 array-write-seen : tie.Need-array-write-seen Inv-loop μ-loop Inv-loop2 μ-loop2
 array-write-seen c = let b = slot-there c in omega arith
@@ -77,9 +71,6 @@ loop-again c = (omega arith, simp length-set (c .before .before .before .before 
 
 loop2-holds : tie.Need-loop2-holds Inv-loop μ-loop Inv-loop2 μ-loop2
 loop2-holds c = (omega arith, all-start _)
-
-mul-ok : tie.Need-mul-ok Inv-loop μ-loop Inv-loop2 μ-loop2
-mul-ok c = search needs
 
 array-read-ok : tie.Need-array-read-ok Inv-loop μ-loop Inv-loop2 μ-loop2
 array-read-ok c = search needs
@@ -111,16 +102,13 @@ once-ok-spec =
     shared-slice-read-wide
     wide-requires
     slot-requires
-    mul-seen
     array-read-seen
     add-seen
-    mul-seen-2
     array-write-seen
     add-i
     loop-less
     loop-again
     loop2-holds
-    mul-ok
     array-read-ok
     add-k
     loop2-less

@@ -1,20 +1,22 @@
 -- `circuit::outs_ok` meets its contract. Assumes nothing.
-use mathlib.Core.Path.{_≡_}
-use Prim.Native.Nat.{_-_, _≤_}
+use mathlib.Core.Path.{_≡_, sym, _∙_}
+use mathlib.Core.Bool.{true}
+use Prim.Native.Nat.{_+_, _-_, _*_, _≤_}
 use native.Mathlib.Omega.{arith}
 use borrow.Author.Needs.{needs}
+use borrow.Author.Tests.{not-true, not-false}
 use Rattle.wire.specs.All.{all}
-use Rattle.wire.specs.Storage.{outputForm, outputCount}
-use Rattle.circuit.specs.Parts.{formOk, outOk}
-use Rattle.circuit.proofs.All.{all-start, all-turn, all-end}
+use Rattle.wire.specs.Storage.{outputsFrom, outputCount}
+use Rattle.circuit.specs.Parts.{rangeOk, outsRange}
+use Rattle.circuit.proofs.All.{all-start, all-turn, all-end, all-no}
 use Rattle.circuit.proofs.outs_ok.Statement.{statement}
 use Rattle.circuit.proofs.outs_ok.Tie as tie
 
 abbrev Inv-loop : tie.InvT-loop
-Inv-loop nums biases wires coefs terms end outs ok₀ k₀ ok k = (k ≤ outs) × (ok ≡ all (λ i. formOk wires terms end (outputForm nums biases i)) k)
+Inv-loop nums wires terms end outs k₀ k = (k ≤ outs) × (true ≡ all (λ i. rangeOk wires terms end nums (outputsFrom + 2 * i)) k)
 
 abbrev μ-loop : tie.MeasureT-loop
-μ-loop nums biases wires coefs terms end outs ok₀ k₀ ok k = outs - k
+μ-loop nums wires terms end outs k₀ k = outs - k
 
 add-end : tie.Need-add-end Inv-loop μ-loop
 add-end c = search needs
@@ -28,14 +30,18 @@ add-outs c = search needs
 loop-holds : tie.Need-loop-holds Inv-loop μ-loop
 loop-holds c = (omega arith, all-start _)
 
-mul-form-ok : tie.Need-mul-form-ok Inv-loop μ-loop
-mul-form-ok c = search needs
+mul-range-ok : tie.Need-mul-range-ok Inv-loop μ-loop
+mul-range-ok c = search needs
 
-add-form-ok : tie.Need-add-form-ok Inv-loop μ-loop
-add-form-ok c = search needs
+add-range-ok : tie.Need-add-range-ok Inv-loop μ-loop
+add-range-ok c = search needs
 
-form-ok-requires : tie.Need-form-ok-requires Inv-loop μ-loop
-form-ok-requires c κs = search needs
+range-ok-requires : tie.Need-range-ok-requires Inv-loop μ-loop
+range-ok-requires c κs = search needs
+
+returns : tie.Need-returns Inv-loop μ-loop
+unfolding outsRange
+returns c = all-no _ (c .before .before .before .loop .k) (outputCount (c .before .before .before .before .before .before .before .before .before .args .counts)) (omega arith) (sym (c .before .range-ok .ensures) ∙ not-true _ (c .if1 .taken))
 
 add-k : tie.Need-add-k Inv-loop μ-loop
 add-k c = search needs
@@ -44,11 +50,11 @@ loop-less : tie.Need-loop-less Inv-loop μ-loop
 loop-less c = search needs
 
 loop-again : tie.Need-loop-again Inv-loop μ-loop
-loop-again c = (omega arith, all-turn _ _ (c .before .before .loop .inv .1) (c .form-ok .ensures))
+loop-again c = (omega arith, all-turn _ _ (c .before .before .before .loop .inv .1) (sym (not-false _ (c .if1 .left)) ∙ c .before .range-ok .ensures))
 
-returns : tie.Need-returns Inv-loop μ-loop
-unfolding outOk
-returns c = all-end _ (c .before .loop .k) (outputCount (c .before .before .before .before .before .before .before .before .before .args .counts)) (c .before .loop .inv .1) (omega arith) (omega arith)
+returns-2 : tie.Need-returns-2 Inv-loop μ-loop
+unfolding outsRange
+returns-2 c = all-end _ (c .before .loop .k) (outputCount (c .before .before .before .before .before .before .before .args .counts)) (c .before .loop .inv .1) (omega arith) (omega arith)
 
 pub outs-ok-spec : {M : Type 1} → statement M
 outs-ok-spec =
@@ -60,10 +66,11 @@ outs-ok-spec =
     mul-outs
     add-outs
     loop-holds
-    mul-form-ok
-    add-form-ok
-    form-ok-requires
+    mul-range-ok
+    add-range-ok
+    range-ok-requires
+    returns
     add-k
     loop-less
     loop-again
-    returns)
+    returns-2)

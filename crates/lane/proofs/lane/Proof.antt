@@ -4,7 +4,7 @@ use native.Mathlib.Omega.{arith}
 use borrow.Author.Needs.{needs}
 use lib.ListN.{length, length-replicate}
 use Rattle.exact.specs.Whole.{zero32}
-use Rattle.evaluate.proofs.Cells.{outs-part, table-length}
+use Rattle.evaluate.proofs.Cells.{table-length}
 use Rattle.lane.proofs.Laws.{lane-refused, lane-settled}
 use Rattle.lane.proofs.lane.Statement.{statement}
 use Rattle.lane.proofs.lane.Tie as tie
@@ -21,26 +21,20 @@ same-length c = search needs
 returns : tie.Need-returns
 returns c = lane-refused _ _ _ (c .before .inputs .ensures) (c .match .keys2)
 
+fill-table-requires : tie.Need-fill-table-requires
+fill-table-requires c κs = let a = c .before .before .before .before .before .before .before .before .before .before .before .before .before .before .before .before .before .before .pre .1 .0 in let b = c .before .before .before .before .before .before .before .before .before .before .before .before .before .before .before .before .before .before .pre .1 .1 in (c .before .before .before .before .before .before .before .before .before .before .before .before .before .before .before .before .before .before .pre .0, (omega arith, omega arith, omega arith, omega arith))
+
 mul-n : tie.Need-mul-n
-mul-n c = search needs
+mul-n c = let z = c .before .before .before .before .before .before .before .before .before .before .before .before .before .before .before .before .before .before .before .before .before .before .pre .0 .sizes in omega arith
 
 add-n : tie.Need-add-n
-add-n c = search needs
+add-n c = let z = c .before .before .before .before .before .before .before .before .before .before .before .before .before .before .before .before .before .before .before .before .before .before .before .pre .0 .sizes in omega arith
 
-fill-table-requires : tie.Need-fill-table-requires
-fill-table-requires c κs = let a = c .before .before .before .before .before .before .before .before .before .before .before .before .before .before .before .before .before .before .before .before .pre .1 .0 in let b = c .before .before .before .before .before .before .before .before .before .before .before .before .before .before .before .before .before .before .before .before .pre .1 .1 in (c .before .before .before .before .before .before .before .before .before .before .before .before .before .before .before .before .before .before .before .before .pre .0, (omega arith, omega arith, omega arith, omega arith))
+slice-aggregate-finish : tie.Need-slice-aggregate-finish
+slice-aggregate-finish c = search needs
 
-slice-aggregate-read-outs : tie.Need-slice-aggregate-read-outs
-slice-aggregate-read-outs c = search needs
-
-read-outs-requires : tie.Need-read-outs-requires
-read-outs-requires c κs = let b = c .before .before .before .before .before .before .before .before .before .before .before .before .before .before .before .before .before .before .before .before .before .before .before .before .before .pre .1 .1 in let z = c .before .before .before .before .before .before .before .before .before .before .before .before .before .before .before .before .before .before .before .before .before .before .before .before .before .pre .0 .sizes in let l = length-replicate 896 zero32 in let t = ap length (c .before .before .before .before .fill-table .ensures) ∙ table-length _ _ _ _ _ in (c .before .before .before .before .before .before .before .before .before .before .before .before .before .before .before .before .before .before .before .before .before .before .before .before .before .pre .0, (omega arith, omega arith))
-
-slice-aggregate-settle : tie.Need-slice-aggregate-settle
-slice-aggregate-settle c = search needs
-
-settle-requires : tie.Need-settle-requires
-settle-requires c κs = let a = c .before .before .before .before .before .before .before .before .before .before .before .before .before .before .before .before .before .before .before .before .before .before .before .before .before .before .before .before .before .before .before .before .before .pre .1 .0 in let b = c .before .before .before .before .before .before .before .before .before .before .before .before .before .before .before .before .before .before .before .before .before .before .before .before .before .before .before .before .before .before .before .before .before .pre .1 .1 in let z = c .before .before .before .before .before .before .before .before .before .before .before .before .before .before .before .before .before .before .before .before .before .before .before .before .before .before .before .before .before .before .before .before .before .pre .0 .sizes in let h = c .before .before .before .before .before .before .before .before .before .before .before .before .before .before .before .before .before .before .before .before .before .before .before .before .before .before .before .before .before .before .before .before .before .pre .0 .held in let l = c .before .before .before .before .before .before .before .read-outs .kept .1 .0 in ((refl, omega arith, omega arith, omega arith), ((omega arith, omega arith, omega arith, omega arith), c .before .before .before .before .before .before .before .before .before .before .before .before .before .before .before .before .before .before .before .before .before .before .before .before .before .before .before .before .before .before .before .before .before .pre .0 .leaves))
+finish-requires : tie.Need-finish-requires
+finish-requires c κs = let a = c .before .before .before .before .before .before .before .before .before .before .before .before .before .before .before .before .before .before .before .before .before .before .before .before .before .before .before .before .before .before .before .pre .1 .0 in let b = c .before .before .before .before .before .before .before .before .before .before .before .before .before .before .before .before .before .before .before .before .before .before .before .before .before .before .before .before .before .before .before .pre .1 .1 in let z = c .before .before .before .before .before .before .before .before .before .before .before .before .before .before .before .before .before .before .before .before .before .before .before .before .before .before .before .before .before .before .before .pre .0 .sizes in let l = length-replicate 64 zero32 in let t = ap length (c .before .before .before .before .before .before .before .before .before .before .before .before .fill-table .ensures) ∙ table-length _ _ _ _ _ in (c .before .before .before .before .before .before .before .before .before .before .before .before .before .before .before .before .before .before .before .before .before .before .before .before .before .before .before .before .before .before .before .pre .0, ((omega arith, omega arith, omega arith, omega arith), (omega arith, omega arith, omega arith)))
 
 same-length-2 : tie.Need-same-length-2
 same-length-2 c = search needs
@@ -61,7 +55,34 @@ same-length-7 : tie.Need-same-length-7
 same-length-7 c = search needs
 
 returns-2 : tie.Need-returns-2
-returns-2 c = let z = c .before .before .before .before .before .before .before .before .before .before .before .before .before .before .before .before .before .before .before .before .before .before .before .before .before .before .before .before .before .before .before .before .before .before .before .before .before .before .before .before .before .before .before .before .pre .0 .sizes in let l = length-replicate 896 zero32 in lane-settled _ _ _ (c .before .before .before .before .before .before .before .before .before .before .before .before .before .before .before .before .before .before .before .before .before .before .before .before .before .before .before .before .before .before .before .inputs .ensures) (c .before .before .before .before .before .before .before .before .before .before .before .before .before .before .before .before .before .before .before .before .before .before .before .before .before .before .before .before .before .enum-told .given .1) (c .before .before .before .before .before .before .before .before .before .before .before .before .before .before .before .before .before .before .before .before .before .before .before .fill-table .ensures) (outs-part _ _ _ (omega arith) (c .before .before .before .before .before .before .before .before .before .before .before .before .before .before .before .before .before .before .read-outs .ensures)) (c .before .before .before .before .before .before .before .before .before .before .settle .ensures _)
+returns-2 c = lane-settled _ _ _ (c .before .before .before .before .before .before .before .before .before .before .before .before .before .before .before .before .before .before .before .before .before .before .before .before .before .before .before .before .before .before .inputs .ensures) (c .before .before .before .before .before .before .before .before .before .before .before .before .before .before .before .before .before .before .before .before .before .before .before .before .before .before .before .before .enum-told .given .1) (c .before .before .before .before .before .before .before .before .before .before .before .before .before .before .before .before .before .before .before .before .before .before .before .before .fill-table .ensures) refl (c .before .before .before .before .before .before .before .before .before .before .before .finish .ensures _)
+
+slice-aggregate-finish-2 : tie.Need-slice-aggregate-finish-2
+slice-aggregate-finish-2 c = search needs
+
+finish-requires-2 : tie.Need-finish-requires-2
+finish-requires-2 c κs = let a = c .before .before .before .before .before .before .before .before .before .before .before .before .before .before .before .before .before .before .before .before .before .before .before .before .before .before .before .before .before .before .before .pre .1 .0 in let b = c .before .before .before .before .before .before .before .before .before .before .before .before .before .before .before .before .before .before .before .before .before .before .before .before .before .before .before .before .before .before .before .pre .1 .1 in let z = c .before .before .before .before .before .before .before .before .before .before .before .before .before .before .before .before .before .before .before .before .before .before .before .before .before .before .before .before .before .before .before .pre .0 .sizes in let l = length-replicate 896 zero32 in let t = ap length (c .before .before .before .before .before .before .before .before .before .before .before .before .fill-table .ensures) ∙ table-length _ _ _ _ _ in (c .before .before .before .before .before .before .before .before .before .before .before .before .before .before .before .before .before .before .before .before .before .before .before .before .before .before .before .before .before .before .before .pre .0, ((omega arith, omega arith, omega arith, omega arith), (omega arith, omega arith, omega arith)))
+
+same-length-8 : tie.Need-same-length-8
+same-length-8 c = search needs
+
+same-length-9 : tie.Need-same-length-9
+same-length-9 c = search needs
+
+same-length-10 : tie.Need-same-length-10
+same-length-10 c = search needs
+
+same-length-11 : tie.Need-same-length-11
+same-length-11 c = search needs
+
+same-length-12 : tie.Need-same-length-12
+same-length-12 c = search needs
+
+same-length-13 : tie.Need-same-length-13
+same-length-13 c = search needs
+
+returns-3 : tie.Need-returns-3
+returns-3 c = lane-settled _ _ _ (c .before .before .before .before .before .before .before .before .before .before .before .before .before .before .before .before .before .before .before .before .before .before .before .before .before .before .before .before .before .before .inputs .ensures) (c .before .before .before .before .before .before .before .before .before .before .before .before .before .before .before .before .before .before .before .before .before .before .before .before .before .before .before .before .enum-told .given .1) (c .before .before .before .before .before .before .before .before .before .before .before .before .before .before .before .before .before .before .before .before .before .before .before .before .fill-table .ensures) refl (c .before .before .before .before .before .before .before .before .before .before .before .finish2 .ensures _)
 
 pub lane-spec : {M : Type 1} → statement M
 lane-spec =
@@ -71,17 +92,24 @@ lane-spec =
     enum-told
     same-length
     returns
+    fill-table-requires
     mul-n
     add-n
-    fill-table-requires
-    slice-aggregate-read-outs
-    read-outs-requires
-    slice-aggregate-settle
-    settle-requires
+    slice-aggregate-finish
+    finish-requires
     same-length-2
     same-length-3
     same-length-4
     same-length-5
     same-length-6
     same-length-7
-    returns-2)
+    returns-2
+    slice-aggregate-finish-2
+    finish-requires-2
+    same-length-8
+    same-length-9
+    same-length-10
+    same-length-11
+    same-length-12
+    same-length-13
+    returns-3)
