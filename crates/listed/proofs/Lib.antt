@@ -1,0 +1,4 @@
+pub mod Begins
+pub mod Heard
+pub mod Room
+pub mod Rows

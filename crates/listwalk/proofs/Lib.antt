@@ -1,0 +1,5 @@
+pub mod Bytes
+pub mod Example
+pub mod Printed
+pub mod Records
+pub mod Walked
