@@ -7,4 +7,5 @@ if [ ! -e ../shared/docs/src/circuit/src/wire.rs ]; then
     exit 0
 fi
 rt staticlib arenac >/dev/null
-CARGO_TARGET_DIR="$PWD/target/arenatest" cargo test --offline --release --quiet --manifest-path oracle/arenatest/Cargo.toml --test '*' -- --nocapture
+cd oracle
+cargo test --offline --release --quiet -p arenatest --test '*' -- --nocapture

@@ -1,8 +1,5 @@
-//! Links the static library that `rt staticlib palthengi` writes.
+//! Links the archive of crate palthengi.
 
 fn main() {
-    let root = std::env::var("CARGO_MANIFEST_DIR").expect("cargo sets this");
-    println!("cargo:rustc-link-search=native={root}/../../target/staticlib");
-    println!("cargo:rustc-link-lib=static=palthengi");
-    println!("cargo:rerun-if-changed={root}/../../target/staticlib/libpalthengi.a");
+    archive::link("palthengi");
 }

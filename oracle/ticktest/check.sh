@@ -16,15 +16,22 @@ run() {
     cargo run --offline --release --quiet -p ticktest --bin "$name" -- "$@"
 }
 run compiles
+run runs
 run ticks
 run damage
-# A comparison is worth what it finds: each slip in the reading must make it fail.
-for slip in order own wide; do
-    status=0
-    run damage --wrong $slip >/dev/null || status=$?
-    if [ $status -ne 1 ]; then
-        echo "ticktest: the slip '$slip' was not found (exit $status)"
-        exit 1
-    fi
-done
-echo "ticktest: the slips order, own and wide are each found"
+# A comparison is worth what it finds: each slip must make program $1 fail.
+slips() {
+    name=$1
+    shift
+    for slip in "$@"; do
+        status=0
+        run "$name" --wrong "$slip" >/dev/null || status=$?
+        if [ $status -ne 1 ]; then
+            echo "ticktest: the slip '$slip' was not found by $name (exit $status)"
+            exit 1
+        fi
+    done
+    echo "ticktest: $name finds each slip: $*"
+}
+slips runs idle fresh edge table past
+slips damage order own wide

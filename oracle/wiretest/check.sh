@@ -3,4 +3,5 @@
 set -eu
 cd "$(dirname "$0")/../.."
 rt staticlib wirec >/dev/null
-CARGO_TARGET_DIR="$PWD/target/wiretest" cargo test --offline --release --quiet --manifest-path oracle/wiretest/Cargo.toml --test '*' -- --nocapture
+cd oracle
+cargo test --offline --release --quiet -p wiretest --test '*' -- --nocapture

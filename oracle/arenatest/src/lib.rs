@@ -1,5 +1,7 @@
 //! The C functions of crate arenac, callable from Rust on two pools of terms.
 
+use archive::call;
+
 /// A form by its bias and the range of its terms, and the room that is left.
 #[repr(C)]
 #[derive(Clone, Copy, Debug)]
@@ -65,56 +67,31 @@ unsafe extern "C" {
 
 impl Pools {
     pub fn plus(&mut self, a: Form, b: Form) -> Row {
-        let (wires, coefs) = (&mut self.wires, &mut self.coefs);
-        // SAFETY: each slice goes over as its pointer and its length.
+        // SAFETY: each slice goes over as its pointer and its length, and nothing is kept.
         unsafe {
-            palthengi_plus(
-                wires.as_mut_ptr(),
-                wires.len(),
-                coefs.as_mut_ptr(),
-                coefs.len(),
-                self.used,
-                a.bias,
-                a.first,
-                a.len,
-                b.bias,
-                b.first,
-                b.len,
+            call!(
+                palthengi_plus() reads() writes(self.wires, self.coefs)
+                then(self.used, a.bias, a.first, a.len, b.bias, b.first, b.len)
             )
         }
     }
 
     pub fn scaled(&mut self, a: Form, factor: f32) -> Row {
-        let (wires, coefs) = (&mut self.wires, &mut self.coefs);
         // SAFETY: as above.
         unsafe {
-            palthengi_scaled(
-                wires.as_mut_ptr(),
-                wires.len(),
-                coefs.as_mut_ptr(),
-                coefs.len(),
-                self.used,
-                a.bias,
-                a.first,
-                a.len,
-                factor,
+            call!(
+                palthengi_scaled() reads() writes(self.wires, self.coefs)
+                then(self.used, a.bias, a.first, a.len, factor)
             )
         }
     }
 
     pub fn one_minus(&mut self, a: Form) -> Row {
-        let (wires, coefs) = (&mut self.wires, &mut self.coefs);
         // SAFETY: as above.
         unsafe {
-            palthengi_one_minus(
-                wires.as_mut_ptr(),
-                wires.len(),
-                coefs.as_mut_ptr(),
-                coefs.len(),
-                self.used,
-                a.bias,
-                a.first,
-                a.len,
+            call!(
+                palthengi_one_minus() reads() writes(self.wires, self.coefs)
+                then(self.used, a.bias, a.first, a.len)
             )
         }
     }

@@ -71,7 +71,11 @@ fn operations() {
     let builder = Builder::new(WIRES);
     let (mut refused, mut shared) = (0, 0);
     for case in 0..300_000 {
-        let (a, b, factor) = (affine(&mut r, &builder), affine(&mut r, &builder), float(&mut r));
+        let (a, b, factor) = (
+            affine(&mut r, &builder),
+            affine(&mut r, &builder),
+            float(&mut r),
+        );
         let slots = r.between(20, 59);
         let mut pools = Pools {
             wires: vec![7777; slots],
@@ -90,7 +94,11 @@ fn operations() {
                 let need = before.used + left.len + right.len;
                 (pools.plus(left, right), a.plus(&b), free || need <= lent)
             }
-            1 => (pools.scaled(left, factor), a.scaled(factor), before.used + left.len <= lent),
+            1 => (
+                pools.scaled(left, factor),
+                a.scaled(factor),
+                before.used + left.len <= lent,
+            ),
             _ => {
                 let want = a.scaled(-1.0).offset(1.0);
                 (pools.one_minus(left), want, before.used + left.len <= lent)
@@ -100,11 +108,17 @@ fn operations() {
         let end = before.wires.len().max(before.coefs.len());
         if !row.ok {
             refused += 1;
-            assert!(row.used == before.used && untouched(&before, &pools, 0, end), "case {case}");
+            assert!(
+                row.used == before.used && untouched(&before, &pools, 0, end),
+                "case {case}"
+            );
             continue;
         }
         shared += usize::from(row.used == before.used && row.len > 0);
-        assert!(holds(&pools, row, &want), "case {case}: {row:?} for {want:?}");
+        assert!(
+            holds(&pools, row, &want),
+            "case {case}: {row:?} for {want:?}"
+        );
         assert!(
             untouched(&before, &pools, 0, before.used) && untouched(&before, &pools, row.used, end),
             "case {case}: written past the form"

@@ -99,7 +99,8 @@ impl Pair {
         same(&question, "cells", &rust_cells, &cells)
     }
 
-    fn question(&self, state: &State, row: &[u8]) -> String {
+    /// A tick as the programs print it: the tree's bytes, the state and the row.
+    pub fn question(&self, state: &State, row: &[u8]) -> String {
         format!(
             "tree bytes: {}\nflags: {:?}\ncursors: {:?}\nrow: {row:?}\n",
             hex(&self.tree.to_bytes()),
@@ -121,8 +122,20 @@ impl Pair {
     /// One tick from any state: would-be statuses, reached, halted, next flags
     /// and next cursors; and `validate` passes. Answers what the Rust does.
     pub fn tick(&self, state: &State, row: &[u8]) -> Result<Outcome, Difference> {
+        let values = circuit::values(&self.lowered, state, row)
+            .map_err(|error| Difference(format!("{}rust: {error}", self.question(state, row))))?;
+        self.outcome(state, row, &values)
+    }
+
+    /// [`Self::tick`], where the Rust's value table is at hand.
+    pub fn outcome(
+        &self,
+        state: &State,
+        row: &[u8],
+        values: &[f32],
+    ) -> Result<Outcome, Difference> {
         let question = || self.question(state, row);
-        let rust = circuit::tick(&self.lowered, state, row)
+        let rust = circuit::outcome(&self.lowered, values)
             .map_err(|error| Difference(format!("{}rust: {error}", question())))?;
         let reading = self.walk(state, row)?;
         same(

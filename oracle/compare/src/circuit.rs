@@ -75,14 +75,18 @@ pub fn cells(lowered: &Lowered, state: &State, row: &[u8]) -> Vec<f32> {
     cells
 }
 
-/// What the circuit says of a tick from any state.
-pub fn tick(lowered: &Lowered, state: &State, row: &[u8]) -> Result<Outcome, String> {
-    let values = lowered
+/// The value table of a tick from any state.
+pub fn values(lowered: &Lowered, state: &State, row: &[u8]) -> Result<Vec<f32>, String> {
+    lowered
         .circuit()
         .evaluate(&cells(lowered, state, row))
-        .map_err(|error| error.to_string())?;
+        .map_err(|error| error.to_string())
+}
+
+/// What the circuit's outputs say of a tick's value table.
+pub fn outcome(lowered: &Lowered, values: &[f32]) -> Result<Outcome, String> {
     lowered
-        .validate(&values)
+        .validate(values)
         .map_err(|error| format!("validate: {error}"))?;
     let whole = |value: &f32| value.fract() == 0.0 && value.abs() < EXACT_LIMIT;
     if let Some(place) = values.iter().position(|value| !whole(value)) {
@@ -90,11 +94,11 @@ pub fn tick(lowered: &Lowered, state: &State, row: &[u8]) -> Result<Outcome, Str
     }
     let outputs = lowered.outputs();
     let bits = |bits: &[Bit]| -> Vec<bool> {
-        let values = bits.iter().map(|bit| bit.form().value(&values));
+        let values = bits.iter().map(|bit| bit.form().value(values));
         values.map(|value| value == 1.0).collect()
     };
-    let statuses = outputs.status.iter().map(|bits| status(bits, &values));
-    let cursors = outputs.next_cursor.iter().map(|form| form.value(&values));
+    let statuses = outputs.status.iter().map(|bits| status(bits, values));
+    let cursors = outputs.next_cursor.iter().map(|form| form.value(values));
     Ok(Outcome {
         would_be: statuses.collect::<Result<_, _>>()?,
         ticked: bits(&outputs.reached),

@@ -54,7 +54,14 @@ pub fn forms(lowered: &Lowered) -> Vec<Affine> {
             Op::Reglu { left, gate } => forms.extend([left.clone(), gate.clone()]),
         }
     }
+    forms.extend(output_forms(lowered).into_iter().cloned());
+    forms
+}
+
+/// The output forms in document 01's order.
+pub fn output_forms(lowered: &Lowered) -> Vec<&Affine> {
     let outputs = lowered.outputs();
+    let mut forms = Vec::new();
     for node in 0..lowered.plan().node_count() {
         let status = &outputs.status[node];
         let bits = [
@@ -65,9 +72,9 @@ pub fn forms(lowered: &Lowered) -> Vec<Affine> {
             &outputs.halted[node],
             &outputs.next_running[node],
         ];
-        forms.extend(bits.map(|bit| bit.form().clone()));
+        forms.extend(bits.map(|bit| bit.form()));
     }
-    forms.extend(outputs.next_cursor.iter().cloned());
+    forms.extend(&outputs.next_cursor);
     forms
 }
 

@@ -1,17 +1,15 @@
-//! The proved tick as it is linked, circuits in its storage, and document 01's
-//! words on ticking in plain Rust.
+//! The proved compile and tick as they are linked, circuits in their storage,
+//! the Rust and the reading beside them, and document 01's words on ticking in
+//! plain Rust.
 
+pub mod beside;
 pub mod law;
 pub mod linked;
 pub mod made;
 pub mod storage;
 
-pub use storage::{Compilation, Counts, Lent, Refusal, Stored, Work};
-
-/// Equal bits; all NaNs count as one.
-pub fn same(a: f32, b: f32) -> bool {
-    a.to_bits() == b.to_bits() || (a.is_nan() && b.is_nan())
-}
+pub use archive::{Counts, same};
+pub use storage::{Compilation, Lent, Refusal, Stored, Work};
 
 /// `same`, entry by entry.
 pub fn all_same(a: &[f32], b: &[f32]) -> bool {

@@ -1,5 +1,7 @@
 //! The proved functions, as include/palthengi.h declares them.
 
+use archive::call;
+
 use crate::{Compilation, Counts, Lent, Refusal, Stored, Work};
 
 unsafe extern "C" {
@@ -76,39 +78,15 @@ unsafe extern "C" {
 
 /// Whether the storage is a circuit.
 pub fn check(s: &Stored) -> u32 {
-    // SAFETY: each pointer goes with its own slice's length.
-    unsafe {
-        palthengi_check(
-            s.counts,
-            s.nums.as_ptr(),
-            s.nums.len(),
-            s.biases.as_ptr(),
-            s.biases.len(),
-            s.wires.as_ptr(),
-            s.wires.len(),
-            s.coefs.as_ptr(),
-            s.coefs.len(),
-        )
-    }
+    // SAFETY: each slice goes over as its pointer and its length, and nothing is kept.
+    unsafe { call!(palthengi_check(s.counts) reads(s.nums, s.biases, s.wires, s.coefs) writes()) }
 }
 
 /// Validation of a table.
 pub fn validate(s: &Stored, table: &[f32]) -> Refusal {
     // SAFETY: as above.
     unsafe {
-        palthengi_validate(
-            s.counts,
-            s.nums.as_ptr(),
-            s.nums.len(),
-            s.biases.as_ptr(),
-            s.biases.len(),
-            s.wires.as_ptr(),
-            s.wires.len(),
-            s.coefs.as_ptr(),
-            s.coefs.len(),
-            table.as_ptr(),
-            table.len(),
-        )
+        call!(palthengi_validate(s.counts) reads(s.nums, s.biases, s.wires, s.coefs, table) writes())
     }
 }
 
@@ -116,30 +94,10 @@ pub fn validate(s: &Stored, table: &[f32]) -> Refusal {
 pub fn tick(s: &Stored, row: &[u8], l: &mut Lent) -> Refusal {
     // SAFETY: as above; what is written is borrowed for the call alone.
     unsafe {
-        palthengi_tick(
-            s.counts,
-            s.nums.as_ptr(),
-            s.nums.len(),
-            s.biases.as_ptr(),
-            s.biases.len(),
-            s.wires.as_ptr(),
-            s.wires.len(),
-            s.coefs.as_ptr(),
-            s.coefs.len(),
-            row.as_ptr(),
-            row.len(),
-            l.flags.as_mut_ptr(),
-            l.flags.len(),
-            l.cursors.as_mut_ptr(),
-            l.cursors.len(),
-            l.values.as_mut_ptr(),
-            l.values.len(),
-            l.statuses.as_mut_ptr(),
-            l.statuses.len(),
-            l.halts.as_mut_ptr(),
-            l.halts.len(),
-            l.edges.as_mut_ptr(),
-            l.edges.len(),
+        call!(
+            palthengi_tick(s.counts)
+            reads(s.nums, s.biases, s.wires, s.coefs, row)
+            writes(l.flags, l.cursors, l.values, l.statuses, l.halts, l.edges)
         )
     }
 }
@@ -148,25 +106,10 @@ pub fn tick(s: &Stored, row: &[u8], l: &mut Lent) -> Refusal {
 pub fn compile(tree: &[u8], s: &mut Stored, w: &mut Work) -> Compilation {
     // SAFETY: as above.
     unsafe {
-        palthengi_compile(
-            tree.as_ptr(),
-            tree.len(),
-            s.nums.as_mut_ptr(),
-            s.nums.len(),
-            s.biases.as_mut_ptr(),
-            s.biases.len(),
-            s.wires.as_mut_ptr(),
-            s.wires.len(),
-            s.coefs.as_mut_ptr(),
-            s.coefs.len(),
-            w.nums.as_mut_ptr(),
-            w.nums.len(),
-            w.biases.as_mut_ptr(),
-            w.biases.len(),
-            w.wires.as_mut_ptr(),
-            w.wires.len(),
-            w.coefs.as_mut_ptr(),
-            w.coefs.len(),
+        call!(
+            palthengi_compile()
+            reads(tree)
+            writes(s.nums, s.biases, s.wires, s.coefs, w.nums, w.biases, w.wires, w.coefs)
         )
     }
 }

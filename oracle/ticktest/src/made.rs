@@ -47,15 +47,8 @@ pub fn circuit(rng: &mut Rng) -> Stored {
         rng.between(1, 6)
     };
     let (cursors, leaves) = (rng.below(nodes + 1), rng.below(nodes + 1));
-    let cells = nodes + cursors + 3 * leaves;
-    let mut s = Stored::empty(Counts {
-        nodes,
-        cursors,
-        leaves,
-        cells,
-        ops: 0,
-        terms: 0,
-    });
+    let mut s = Stored::empty(Counts::of_tree(nodes, cursors, leaves));
+    let cells = s.counts.cells;
     s.nums[..leaves].copy_from_slice(&rising(rng, leaves, nodes));
     s.nums[128..128 + cursors].copy_from_slice(&rising(rng, cursors, nodes));
     let mut report: Vec<u32> = (0..nodes as u32).collect();

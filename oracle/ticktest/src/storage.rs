@@ -1,23 +1,14 @@
 //! A circuit in the storage of docs/STORAGE.md, and the Rust's circuit turned into it.
 
+use archive::Counts;
 use behavior_machines_circuit::{Affine, Lowered, Op};
 use compare::circuit::rust_status;
-use reading::Status;
+use compare::measure::output_forms;
+use reading::{Rng, State, Status};
 
 pub const OUTPUTS: usize = 384;
 pub const OPS: usize = 2176;
 pub const BIASES: usize = 896;
-
-#[repr(C)]
-#[derive(Clone, Copy, Debug, PartialEq)]
-pub struct Counts {
-    pub nodes: usize,
-    pub cursors: usize,
-    pub leaves: usize,
-    pub cells: usize,
-    pub ops: usize,
-    pub terms: usize,
-}
 
 #[repr(C)]
 #[derive(Clone, Copy, Debug)]
@@ -67,15 +58,24 @@ pub struct Compilation {
     pub counts: Counts,
 }
 
-impl Counts {
-    pub const NONE: Self = Self {
-        nodes: 0,
-        cursors: 0,
-        leaves: 0,
-        cells: 0,
-        ops: 0,
-        terms: 0,
-    };
+impl Compilation {
+    pub const fn accepted(counts: Counts) -> Self {
+        Self {
+            number: 0,
+            kind: 0,
+            place: 0,
+            counts,
+        }
+    }
+
+    pub fn refused(number: u32, kind: u32, place: usize) -> Self {
+        Self {
+            number,
+            kind,
+            place,
+            counts: Counts::default(),
+        }
+    }
 }
 
 /// The work room of compile, of the lengths in docs/STORAGE.md.
@@ -97,14 +97,31 @@ impl Work {
         }
     }
 
+    /// Sets some of it, the ends among it.
+    pub fn soil(&mut self, rng: &mut Rng) {
+        fn some<T: Copy>(rng: &mut Rng, slice: &mut [T], set: T) {
+            for place in [0, rng.below(slice.len()), slice.len() - 1] {
+                slice[place] = set;
+            }
+        }
+        some(rng, &mut self.nums, 7);
+        some(rng, &mut self.biases, 7.0);
+        some(rng, &mut self.wires, 7);
+        some(rng, &mut self.coefs, 7.0);
+    }
+
     /// Whether all of it is zero, bit by bit.
     pub fn is_zero(&self) -> bool {
-        let zero = |x: &f32| x.to_bits() == 0;
-        self.nums.iter().all(|x| *x == 0)
-            && self.biases.iter().all(zero)
-            && self.wires.iter().all(|x| *x == 0)
-            && self.coefs.iter().all(zero)
+        let nums = self.nums.iter().fold(0, |bits, x| bits | x);
+        nums == 0 && are_zero(&self.biases, &self.wires, &self.coefs)
     }
+}
+
+/// Whether all of these are zero, bit by bit. Folds, for speed: the work room is long.
+fn are_zero(biases: &[f32], wires: &[u32], coefs: &[f32]) -> bool {
+    let float = |list: &[f32]| list.iter().fold(0, |bits, x| bits | x.to_bits());
+    let wires = wires.iter().fold(0, |bits, x| bits | x);
+    float(biases) | wires | float(coefs) == 0
 }
 
 impl Default for Work {
@@ -148,11 +165,88 @@ impl PartialEq for Lent {
     }
 }
 
+impl Lent {
+    // No tick writes these into an output.
+    const UNWRITTEN: u8 = 9;
+    const UNWRITTEN_VALUE: f32 = 9.5;
+
+    /// A state, and outputs as long as a tick of a circuit with these counts needs and `past` longer, unwritten.
+    pub fn new(n: &Counts, state: State, past: usize) -> Self {
+        let unwritten = |needed: usize| vec![Self::UNWRITTEN; needed + past];
+        Self {
+            flags: state.flags,
+            cursors: state.cursors,
+            values: vec![Self::UNWRITTEN_VALUE; n.cells + n.ops + past],
+            statuses: unwritten(n.nodes),
+            halts: unwritten(n.nodes),
+            edges: unwritten(n.leaves),
+        }
+    }
+
+    /// All outputs as if unwritten; the state stays.
+    pub fn unwrite(&mut self) {
+        self.values.fill(Self::UNWRITTEN_VALUE);
+        for output in [&mut self.statuses, &mut self.halts, &mut self.edges] {
+            output.fill(Self::UNWRITTEN);
+        }
+    }
+
+    /// Whether all that lies past what such a tick needs is unwritten.
+    pub fn is_unwritten_past(&self, n: &Counts) -> bool {
+        let past = |output: &[u8], needed: usize| {
+            output[needed..].iter().all(|byte| *byte == Self::UNWRITTEN)
+        };
+        past(&self.statuses, n.nodes)
+            && past(&self.halts, n.nodes)
+            && past(&self.edges, n.leaves)
+            && self.values[n.cells + n.ops..]
+                .iter()
+                .all(|value| *value == Self::UNWRITTEN_VALUE)
+    }
+
+    /// The state.
+    pub fn state(&self) -> State {
+        State {
+            flags: self.flags.clone(),
+            cursors: self.cursors.clone(),
+        }
+    }
+}
+
+/// Document 01's number of each of the Rust's input cells.
+pub fn cell_numbers(lowered: &Lowered) -> Vec<u32> {
+    let plan = lowered.plan();
+    let (nodes, cursors) = (plan.node_count(), plan.cursor_count());
+    let mut number = vec![0; plan.cell_count() as usize];
+    for node in 0..nodes {
+        number[plan.running_cell(node) as usize] = node as u32;
+    }
+    for cell in 0..cursors {
+        number[plan.cursor_cell(cell) as usize] = (nodes + cell) as u32;
+    }
+    for slot in 0..plan.leaf_count() {
+        for (code, status) in Status::ALL.into_iter().enumerate() {
+            number[plan.leaf_status_cell(slot, rust_status(status)) as usize] =
+                (nodes + cursors + 3 * slot + code) as u32;
+        }
+    }
+    number
+}
+
+/// The Rust's value table, with its input cells where document 01 has them.
+pub fn renumbered(lowered: &Lowered, values: &[f32]) -> Vec<f32> {
+    let mut placed = values.to_vec();
+    for (place, value) in cell_numbers(lowered).into_iter().zip(values) {
+        placed[place as usize] = *value;
+    }
+    placed
+}
+
 impl Stored {
     /// Storage with so many op and term slots, all of it set.
     pub fn dirty(ops: usize, terms: usize) -> Self {
         Self {
-            counts: Counts::NONE,
+            counts: Counts::default(),
             nums: vec![7; OPS + 5 * ops],
             biases: vec![7.0; BIASES + 2 * ops],
             wires: vec![7; terms],
@@ -162,11 +256,8 @@ impl Stored {
 
     /// Whether all four slices are zero, bit by bit.
     pub fn is_zero(&self) -> bool {
-        let zero = |x: &f32| x.to_bits() == 0;
-        self.nums.iter().all(|x| *x == 0)
-            && self.biases.iter().all(zero)
-            && self.wires.iter().all(|x| *x == 0)
-            && self.coefs.iter().all(zero)
+        let nums = self.nums.iter().fold(0, |bits, x| bits | x);
+        nums == 0 && are_zero(&self.biases, &self.wires, &self.coefs)
     }
 
     /// The same circuit in slices that may be longer, past which all is zero; zeros of either sign are equal.
@@ -221,20 +312,9 @@ impl Stored {
     pub fn of(lowered: &Lowered) -> Self {
         let plan = lowered.plan();
         let (nodes, cursors, leaves) = (plan.node_count(), plan.cursor_count(), plan.leaf_count());
-        let cells = nodes + cursors + 3 * leaves;
-        let mut number = vec![0u32; plan.cell_count() as usize];
-        for node in 0..nodes {
-            number[plan.running_cell(node) as usize] = node as u32;
-        }
-        for cell in 0..cursors {
-            number[plan.cursor_cell(cell) as usize] = (nodes + cell) as u32;
-        }
-        for slot in 0..leaves {
-            for (code, status) in Status::ALL.into_iter().enumerate() {
-                number[plan.leaf_status_cell(slot, rust_status(status)) as usize] =
-                    (nodes + cursors + 3 * slot + code) as u32;
-            }
-        }
+        let mut stored = Self::empty(Counts::of_tree(nodes, cursors, leaves));
+        let cells = stored.counts.cells;
+        let number = cell_numbers(lowered);
         let terms = |form: &Affine| {
             let place = |wire: usize| {
                 number
@@ -250,14 +330,6 @@ impl Stored {
             terms.sort_by_key(|(wire, _)| *wire);
             terms
         };
-        let mut stored = Self::empty(Counts {
-            nodes,
-            cursors,
-            leaves,
-            cells,
-            ops: 0,
-            terms: 0,
-        });
         for slot in 0..leaves {
             stored.nums[slot] = plan.leaf_node(slot).expect("a leaf has a node") as u32;
         }
@@ -275,24 +347,8 @@ impl Stored {
                 }
             }
         }
-        let outputs = lowered.outputs();
-        for node in 0..nodes {
-            let status = &outputs.status[node];
-            let bits = [
-                &status.success,
-                &status.failure,
-                &status.running,
-                &outputs.reached[node],
-                &outputs.halted[node],
-                &outputs.next_running[node],
-            ];
-            for (k, bit) in bits.into_iter().enumerate() {
-                stored.output(6 * node + k, bit.form().bias(), &terms(bit.form()));
-            }
-        }
-        for cell in 0..cursors {
-            let form = &outputs.next_cursor[cell];
-            stored.output(6 * nodes + cell, form.bias(), &terms(form));
+        for (k, form) in output_forms(lowered).into_iter().enumerate() {
+            stored.output(k, form.bias(), &terms(form));
         }
         stored
     }

@@ -1,5 +1,7 @@
 //! The C functions of crate wirec, callable from Rust, and the same answers in plain Rust after wire.rs.
 
+use reading::Rng;
+
 /// The lengths of the fixed parts of a circuit's numbers and biases.
 pub const FIXED_NUMS: usize = 2176;
 pub const FIXED_BIASES: usize = 896;
@@ -20,17 +22,6 @@ pub struct Ended {
     pub op: usize,
 }
 
-#[repr(C)]
-#[derive(Clone, Copy, Debug, Default)]
-pub struct Counts {
-    pub nodes: usize,
-    pub cursors: usize,
-    pub leaves: usize,
-    pub cells: usize,
-    pub ops: usize,
-    pub terms: usize,
-}
-
 /// A circuit's storage.
 #[derive(Clone, Debug, Default)]
 pub struct Storage {
@@ -49,7 +40,9 @@ pub struct Form {
 
 /// The crate's answers.
 pub mod proved {
-    use super::{Answer, Counts, Ended, Form, Storage};
+    use archive::{Counts, call};
+
+    use super::{Answer, Ended, Form, Storage};
 
     unsafe extern "C" {
         fn palthengi_value(
@@ -104,80 +97,34 @@ pub mod proved {
     }
 
     pub fn value(f: Form, s: &Storage, table: &[f32]) -> Answer {
-        // Safety: each pointer comes with the length of its slice, and nothing is kept.
+        // SAFETY: each slice goes over as its pointer and its length, and nothing is kept.
         unsafe {
-            palthengi_value(
-                f.bias,
-                f.first,
-                f.len,
-                s.wires.as_ptr(),
-                s.wires.len(),
-                s.coefs.as_ptr(),
-                s.coefs.len(),
-                table.as_ptr(),
-                table.len(),
-            )
+            call!(palthengi_value(f.bias, f.first, f.len) reads(s.wires, s.coefs, table) writes())
         }
     }
 
     pub fn op_value(s: &Storage, table: &[f32], i: usize) -> Answer {
-        // Safety: as in `value`.
+        // SAFETY: as above.
         unsafe {
-            palthengi_op_value(
-                s.nums.as_ptr(),
-                s.nums.len(),
-                s.biases.as_ptr(),
-                s.biases.len(),
-                s.wires.as_ptr(),
-                s.wires.len(),
-                s.coefs.as_ptr(),
-                s.coefs.len(),
-                table.as_ptr(),
-                table.len(),
-                i,
-            )
+            call!(palthengi_op_value() reads(s.nums, s.biases, s.wires, s.coefs, table) writes() then(i))
         }
     }
 
     pub fn evaluate(counts: Counts, s: &Storage, table: &mut [f32]) -> Ended {
-        // Safety: as in `value`.
+        // SAFETY: as above.
         unsafe {
-            palthengi_evaluate(
-                counts,
-                s.nums.as_ptr(),
-                s.nums.len(),
-                s.biases.as_ptr(),
-                s.biases.len(),
-                s.wires.as_ptr(),
-                s.wires.len(),
-                s.coefs.as_ptr(),
-                s.coefs.len(),
-                table.as_mut_ptr(),
-                table.len(),
-            )
+            call!(palthengi_evaluate(counts) reads(s.nums, s.biases, s.wires, s.coefs) writes(table))
         }
     }
 
     pub fn layers(counts: Counts, s: &Storage, out: &mut [u32]) -> u32 {
-        // Safety: as in `value`.
-        unsafe {
-            palthengi_layers(
-                counts,
-                s.nums.as_ptr(),
-                s.nums.len(),
-                s.biases.as_ptr(),
-                s.biases.len(),
-                s.wires.as_ptr(),
-                s.wires.len(),
-                out.as_mut_ptr(),
-                out.len(),
-            )
-        }
+        // SAFETY: as above.
+        unsafe { call!(palthengi_layers(counts) reads(s.nums, s.biases, s.wires) writes(out)) }
     }
 
     pub fn depth(layers: &[u32]) -> u32 {
-        // Safety: as in `value`.
-        unsafe { palthengi_depth(layers.as_ptr(), layers.len()) }
+        // SAFETY: as above.
+        unsafe { call!(palthengi_depth() reads(layers) writes()) }
     }
 }
 
@@ -268,30 +215,10 @@ pub mod plain {
     }
 }
 
-/// Bit for bit, all NaNs one answer.
-pub fn same(a: f32, b: f32) -> bool {
-    a.to_bits() == b.to_bits() || (a.is_nan() && b.is_nan())
-}
-
-/// Random numbers: xorshift64*.
-pub struct Random(pub u64);
+/// Random floats, pools and ranges.
+pub struct Random(pub Rng);
 
 impl Random {
-    pub fn next(&mut self) -> u64 {
-        self.0 ^= self.0 >> 12;
-        self.0 ^= self.0 << 25;
-        self.0 ^= self.0 >> 27;
-        self.0.wrapping_mul(0x2545_F491_4F6C_DD1D)
-    }
-
-    pub fn below(&mut self, n: usize) -> usize {
-        (self.next() >> 33) as usize % n
-    }
-
-    pub fn one_in(&mut self, n: usize) -> bool {
-        self.below(n) == 0
-    }
-
     /// A float: a special one, a small whole one, a fraction, or any bits at all.
     pub fn float(&mut self) -> f32 {
         const SPECIAL: [u32; 12] = [
@@ -308,11 +235,11 @@ impl Random {
             0x3f80_0000, // 1
             0xbf80_0000, // -1
         ];
-        match self.below(8) {
-            0 => f32::from_bits(SPECIAL[self.below(SPECIAL.len())]),
-            1 => f32::from_bits(self.next() as u32),
-            2 => (self.below(2001) as f32 - 1000.0) / 7.0,
-            _ => self.below(131_073) as f32 - 65_536.0,
+        match self.0.below(8) {
+            0 => f32::from_bits(SPECIAL[self.0.below(SPECIAL.len())]),
+            1 => f32::from_bits(self.0.number() as u32),
+            2 => (self.0.below(2001) as f32 - 1000.0) / 7.0,
+            _ => self.0.below(131_073) as f32 - 65_536.0,
         }
     }
 
@@ -322,8 +249,12 @@ impl Random {
 
     /// Pools of lengths that mostly agree, with wires mostly below `values`.
     pub fn pools(&mut self, most: usize, values: usize) -> Storage {
-        let n = self.below(most);
-        let m = if self.one_in(8) { self.below(most) } else { n };
+        let n = self.0.below(most);
+        let m = if self.0.one_in(8) {
+            self.0.below(most)
+        } else {
+            n
+        };
         let wires = (0..n).map(|_| self.wire(values)).collect();
         Storage {
             wires,
@@ -333,23 +264,23 @@ impl Random {
     }
 
     pub fn wire(&mut self, values: usize) -> u32 {
-        match self.below(200) {
+        match self.0.below(200) {
             0 => values as u32,
-            1 => self.next() as u32,
+            1 => self.0.number() as u32,
             _ if values == 0 => 0,
-            _ => self.below(values) as u32,
+            _ => self.0.below(values) as u32,
         }
     }
 
     /// A form's range, mostly inside pools of n terms.
     pub fn range(&mut self, n: usize) -> (usize, usize) {
-        match self.below(100) {
-            0 => (self.below(n + 4), self.below(n + 4)),
-            1 => (u32::MAX as usize, self.below(9)),
+        match self.0.below(100) {
+            0 => (self.0.below(n + 4), self.0.below(n + 4)),
+            1 => (u32::MAX as usize, self.0.below(9)),
             2 => (n, 0),
             _ => {
-                let first = self.below(n + 1);
-                (first, self.below(n - first + 1))
+                let first = self.0.below(n + 1);
+                (first, self.0.below(n - first + 1))
             }
         }
     }

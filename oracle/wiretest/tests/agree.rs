@@ -1,7 +1,7 @@
 //! Random forms, ops and circuits, NaN, infinities, -0 and short tables among them: crate wirec answers as plain Rust does.
-use wiretest::{
-    Counts, Ended, FIXED_BIASES, FIXED_NUMS, Form, Random, Storage, plain, proved, same,
-};
+use archive::{Counts, same};
+use reading::Rng;
+use wiretest::{Ended, FIXED_BIASES, FIXED_NUMS, Form, Random, Storage, plain, proved};
 
 /// How often each way out was taken: a test that meets one of them never has compared nothing.
 #[derive(Default, Debug)]
@@ -15,15 +15,15 @@ struct Seen {
 
 #[test]
 fn forms() {
-    let mut r = Random(0x9e37_79b9_7f4a_7c15);
+    let mut r = Random(Rng::new(1));
     let mut seen = Seen::default();
     for case in 0..100_000 {
-        let places = r.below(40);
+        let places = r.0.below(40);
         let table = r.floats(places);
         let s = r.pools(24, places);
-        let (first, len) = match r.below(500) {
-            0 => (usize::MAX, r.below(3)),
-            1 => (r.below(3), usize::MAX),
+        let (first, len) = match r.0.below(500) {
+            0 => (usize::MAX, r.0.below(3)),
+            1 => (r.0.below(3), usize::MAX),
             _ => r.range(s.wires.len().min(s.coefs.len())),
         };
         let f = Form {
@@ -58,10 +58,10 @@ fn circuit(r: &mut Random, cells: usize, ops: usize) -> Storage {
     s.nums = vec![0; FIXED_NUMS];
     s.biases = vec![0.0; FIXED_BIASES];
     for _ in 0..ops {
-        s.nums.push(if r.one_in(100) {
-            r.below(4) as u32
+        s.nums.push(if r.0.one_in(100) {
+            r.0.below(4) as u32
         } else {
-            1 + r.below(2) as u32
+            1 + r.0.below(2) as u32
         });
         for _ in 0..2 {
             let (first, len) = r.range(lent);
@@ -70,16 +70,16 @@ fn circuit(r: &mut Random, cells: usize, ops: usize) -> Storage {
             s.biases.push(r.float());
         }
     }
-    if r.one_in(50) {
+    if r.0.one_in(50) {
         s.nums
-            .truncate(FIXED_NUMS + 5 * ops - r.below(6).min(5 * ops));
+            .truncate(FIXED_NUMS + 5 * ops - r.0.below(6).min(5 * ops));
     }
-    if r.one_in(50) {
+    if r.0.one_in(50) {
         s.biases
-            .truncate(FIXED_BIASES + 2 * ops - r.below(4).min(2 * ops));
+            .truncate(FIXED_BIASES + 2 * ops - r.0.below(4).min(2 * ops));
     }
-    if r.one_in(200) {
-        s.nums.truncate(r.below(FIXED_NUMS));
+    if r.0.one_in(200) {
+        s.nums.truncate(r.0.below(FIXED_NUMS));
     }
     s
 }
@@ -98,13 +98,13 @@ fn op(s: &Storage, i: usize) -> Result<plain::Op, u32> {
 
 #[test]
 fn ops() {
-    let mut r = Random(0x0123_4567_89ab_cdef);
+    let mut r = Random(Rng::new(2));
     let mut seen = Seen::default();
     for case in 0..25_000 {
-        let places = r.below(40);
+        let places = r.0.below(40);
         let s = circuit(&mut r, places.saturating_sub(4), 4);
         let mut table = r.floats(places);
-        if r.one_in(3) {
+        if r.0.one_in(3) {
             table
                 .iter_mut()
                 .for_each(|v| *v = if *v > 0.0 { 1.0 } else { -0.0 });
@@ -149,18 +149,18 @@ fn ops() {
 
 #[test]
 fn circuits() {
-    let mut r = Random(0xfeed_beef_dead_cafe);
+    let mut r = Random(Rng::new(3));
     let (mut done, mut short, mut bad) = (0, 0, 0);
     for case in 0..10_000 {
-        let (cells, ops) = (r.below(12), r.below(10));
+        let (cells, ops) = (r.0.below(12), r.0.below(10));
         let mut s = circuit(&mut r, cells, ops);
         // Mostly ops that read before their own value, so that some circuits run to the end.
-        if !r.one_in(4) && cells > 0 {
+        if !r.0.one_in(4) && cells > 0 {
             s.wires.iter_mut().for_each(|w| *w %= cells as u32);
         }
-        let spare = r.below(4);
-        let places = if r.one_in(10) {
-            r.below(cells + ops + 1)
+        let spare = r.0.below(4);
+        let places = if r.0.one_in(10) {
+            r.0.below(cells + ops + 1)
         } else {
             cells + ops + spare
         };
@@ -215,7 +215,7 @@ fn circuits() {
             _ => &mut bad,
         } += 1;
 
-        let mut out: Vec<u32> = (0..places).map(|_| r.next() as u32).collect();
+        let mut out: Vec<u32> = (0..places).map(|_| r.0.number() as u32).collect();
         let before = out.clone();
         let number = proved::layers(counts, &s, &mut out);
         if places < cells + ops {

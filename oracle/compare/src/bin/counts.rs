@@ -6,7 +6,7 @@ use std::process::ExitCode;
 
 use compare::agree::{Difference, Pair};
 use compare::cases::bench_trees;
-use compare::circuit::cells;
+use compare::circuit::values;
 use compare::measure::{Sizes, forms, is_exact, largest_sum};
 use reading::generate::{self, FULL_SHAPES, SHAPES};
 use reading::walk::{CURSOR_LIMIT, Slips};
@@ -128,11 +128,7 @@ fn sums(pair: &Pair, rng: &mut Rng) -> Result<f64, Difference> {
     }
     let mut largest = 0.0_f64;
     for (state, row) in questions {
-        let values = pair
-            .lowered
-            .circuit()
-            .evaluate(&cells(&pair.lowered, &state, &row))
-            .map_err(|error| Difference(error.to_string()))?;
+        let values = values(&pair.lowered, &state, &row).map_err(Difference)?;
         largest = largest.max(largest_sum(&forms, &values));
     }
     Ok(largest)
