@@ -13,7 +13,6 @@ static float coefs[TERMS] = {1, 1, 1, 1};
 static palthengi_counts counts = {1, 0, 1, 4, 0, 4};
 
 static uint8_t flags[1], statuses[2] = {9, 9}, halts[2] = {9, 9}, edges[2] = {9, 9};
-static uint32_t cursors[1];
 static float values[5] = {-1, -1, -1, -1, -1};
 
 static void form(int k, uint32_t first, uint32_t len, float bias) {
@@ -26,7 +25,7 @@ static void tick(uint8_t status, size_t row_len) {
     uint8_t row[2] = {status, 0};
     palthengi_refusal r =
         palthengi_tick(counts, nums, PALTHENGI_NUMS_FIXED, biases, PALTHENGI_BIASES_FIXED, wires, TERMS, coefs, TERMS, row, row_len,
-                       flags, 1, cursors, 0, values, 5, statuses, 2, halts, 2, edges, 2);
+                       flags, 1, NULL, 0, values, 5, statuses, 2, halts, 2, edges, 2);
     printf("tick %u %u %zu %g: status %u %u, halt %u %u, edge %u %u, flag %u, values %g %g %g %g %g\n", r.number, r.broken, r.place, r.value,
            statuses[0], statuses[1], halts[0], halts[1], edges[0], edges[1], flags[0], values[0], values[1], values[2], values[3], values[4]);
 }
