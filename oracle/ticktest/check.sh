@@ -1,10 +1,10 @@
 #!/bin/sh
-# The proved compile and tick, through C, against the Rust circuit (where ../shared lies beside this repository) and against document 01's words
-# on random and damaged circuits. Any difference ends it with a non-zero exit.
+# The proved compile and tick, through C, against the Rust circuit, and against document 01's words on random and damaged circuits. Needs
+# ../shared beside this repository. Any difference ends it with a non-zero exit.
 set -eu
 cd "$(dirname "$0")/../.."
 if [ ! -e ../shared/docs/src/circuit/src/lower.rs ]; then
-    echo "ticktest: no ../shared here, so the tick is not compared with the Rust"
+    echo "ticktest: no ../shared here, so compile and tick are not compared"
     exit 0
 fi
 rt staticlib palthengi >/dev/null

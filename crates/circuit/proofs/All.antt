@@ -1,11 +1,11 @@
 -- Conjunctions of tests: a loop with no branch, two tests at once, and when two are the same. Assumes nothing.
 use mathlib.Core.Path.{_≡_, refl, sym, ap, _∙_}
-use mathlib.Core.Bool.{Bool, true, false, _&&_, true≢false}
+use mathlib.Core.Bool.{Bool, true, false, _&&_}
 use Prim.Native.Nat.{ℕ, zero, suc, _+_, _≤_, _<_}
 use native.Mathlib.Numerals.{add-one}
 use native.Mathlib.Omega.{arith}
 use Rattle.wire.specs.All.{all}
-use Rattle.wire.proofs.Tests.{both, all-at}
+use Rattle.wire.proofs.Tests.{both}
 
 pub same : (a b : Bool) → (a ≡ true → b ≡ true) → (b ≡ true → a ≡ true) → a ≡ b
 same true b f g = sym (f refl)
@@ -33,10 +33,6 @@ module _ (p : ℕ → Bool) where
 
   pub all-end : (i n : ℕ) {a : Bool} → a ≡ all p i → i ≤ n → n ≤ i → a ≡ all p n
   all-end i n e h k = let q : i ≡ n = omega arith in e ∙ ap (all p) q
-
-  -- a loop that ends at the first that fails
-  pub all-no : (i n : ℕ) → i < n → p i ≡ false → false ≡ all p n
-  all-no i n l e = same false (all p n) (λ h. absurd (true≢false (sym h))) (λ h. sym e ∙ all-at p i n l h)
 
   pub all-from : (n : ℕ) → ((i : ℕ) → i < n → p i ≡ true) → all p n ≡ true
   unfolding all

@@ -1,4 +1,4 @@
--- The passes of the check together decide document 01's list, and what a circuit that passes tells. Assumes nothing.
+-- The check form by form decides document 01's list; and what the counts of a circuit that passes tell. Assumes nothing.
 use mathlib.Core.Path.{_≡_, refl, sym, ap, _∙_}
 use mathlib.Core.List.{List}
 use mathlib.Core.Bool.{Bool, true, false, not, _&&_}
@@ -91,7 +91,7 @@ ops-are : (s : Stored) → all (opOk s) (s .counts .ops) ≡ kindsKnown s && all
 unfolding opOk kindsKnown
 ops-are s = all-and (kindKnown (s .nums)) (opForms (formOk (s .wires) (s .counts .terms)) s) (s .counts .ops)
 
--- the items that speak of the contents, in document 01's order and by passes
+-- the items that speak of the contents, in document 01's order and form by form
 regroup : (k i r w cn cs b ls f g : Bool) → f && g ≡ i && (r && (w && b)) → k && (i && (r && (w && (cn && (cs && (b && ls)))))) ≡ (cn && cs) && ((k && f) && (g && ls))
 regroup k i r w cn cs b ls f g e =
     same (k && (i && (r && (w && (cn && (cs && (b && ls))))))) ((cn && cs) && ((k && f) && (g && ls)))

@@ -15,8 +15,10 @@
 --   tick: crate tick                  tickOf, specs/Tick; 11 to 18                     one-tick, the same
 --   validate: crate validate          validateOf, specs/Validate                       one-verdict, crate validate, proofs/Unique
 --   ticked, halts: crate report       tickedOf, haltsOf, specs/                        one-list, one-halt-list, crate report, proofs/Unique
---   value, op_value, evaluate and     valueOf, opValueOf, evaluated, tableLeft,        one-value, one-op-value, one-evaluation and others,
---     what tests them: crate eval       specs/                                           crate eval, proofs/Unique
+--   is_readable, op_at,               readable, storedOp, opReads, specs/Reading       one-readable, one-op, one-op-readable, crate reading,
+--     op_is_readable: crate reading                                                      proofs/Unique
+--   value, op_value, evaluate:        valueOf, opValueOf, evaluated, tableLeft,        one-value, one-op-value, one-evaluation, crate eval,
+--     crate eval                        specs/                                           proofs/Unique
 --   layers, depth: crate layers       layered, layersLeft, specs/                      one-layering, one-depth, crate layers, proofs/Unique
 --   forms and slots: crate wire       specs/Storage, specs/Terms                       crate wire, proofs/Unique
 --   palthengi_check, palthengi_       checkNumber, ofValidated, tell:                  one-number, one-refusal, one-told,
@@ -27,7 +29,10 @@
 --   write_line, write_refused,        lineOf, refusedLine, badLine:                    one-line, here
 --     write_bad: crate listing          specs/Line
 --   outer_at: crate listing           outerAt, specs/Outer                             one-answer, here
+--   begin: crate liststart            beginOf, crate listed, specs/Begin               one-begun, crate liststart, proofs/Unique
 --   list_rows: crate listrows         rowsOf, specs/Rows                               one-run, crate listrows, proofs/Unique
+--   finish, move_down: crate          lastLine, unread, specs/Ends                     one-line, here
+--     listends
 use mathlib.Core.Path.{_≡_, refl, sym, _∙_, ap}
 use mathlib.Core.Bool.{Bool, true, false, cond}
 use mathlib.Core.List.{List}
@@ -182,7 +187,8 @@ pub one-list : (list : List ℕ → List ℕ) (given before : List ℕ) (r r′ 
     → (r′ ≡ length (list given)) × (left′ ≡ sets before 0 (list given)) → (r ≡ r′) × (left ≡ left′)
 one-list list given before r r′ left left′ e e′ = (e .0 ∙ sym (e′ .0), e .1 ∙ sym (e′ .1))
 
--- refusal::write_refusal, and write_line, write_refused and write_bad of crate listing: `line` is lineOf, refusedLine and badLine
+-- refusal::write_refusal; write_line, write_refused and write_bad of crate listing; finish and move_down of crate listends: `line` is lineOf,
+-- refusedLine, badLine, lastLine and unread
 pub one-line : (line buffer : List ℕ) (n n′ : ℕ) (left left′ : List ℕ) → (n ≡ length line) × (left ≡ placed line buffer)
     → (n′ ≡ length line) × (left′ ≡ placed line buffer) → (n ≡ n′) × (left ≡ left′)
 one-line line buffer n n′ left left′ e e′ = (e .0 ∙ sym (e′ .0), e .1 ∙ sym (e′ .1))

@@ -1,7 +1,7 @@
 -- Cursors joined by commas, one after the other.
 -- Assumes nothing.
 use mathlib.Core.Path.{_≡_, refl, sym, _∙_, ap}
-use mathlib.Core.List.{List, [], _∷_, _++_, append-assoc}
+use mathlib.Core.List.{List, [], _∷_, _++_, append-nil, append-assoc}
 use Prim.Native.Nat.{ℕ, suc, _+_, _*_, _≤_, _<_}
 use native.Mathlib.Numerals.{add-one}
 use native.Mathlib.Omega.{arith}
@@ -46,17 +46,13 @@ joined-more {entry} {cursors} {now} {at} {end} {i} j h then after parted next n 
           ∙ j .text);
     }
 
-append-none : (l : List ℕ) → l ++ [] ≡ l
-append-none [] = refl
-append-none (x ∷ xs) = ap (λ (t : List ℕ). x ∷ t) (append-none xs)
-
 pub joined-all : {entry cursors now : List ℕ} {at end i : ℕ} → Joined entry at cursors now end i → length cursors ≤ i
     → (take end now ≡ take at entry ++ more (drop 1 cursors)) × (end + 21 ≤ at + 21 * length cursors)
 unfolding more
 joined-all {entry} {cursors} {now} {at} {end} {i} j h =
     let p = j .passed in
     let u = j .used in
-    (sym (append-none (take end now)) ∙ ap (λ (t : List ℕ). take end now ++ more t) (sym (drop-of-length-le cursors h)) ∙ j .text, omega arith)
+    (sym (append-nil (take end now)) ∙ ap (λ (t : List ℕ). take end now ++ more t) (sym (drop-of-length-le cursors h)) ∙ j .text, omega arith)
 
 -- of at least one cursor, the field is the first and then the others
 pub some-cursors : (l : List ℕ) (cursors : List ℕ) → 1 ≤ length cursors → (l ++ decimal (getD cursors 0 0)) ++ more (drop 1 cursors) ≡ l ++ cursorField cursors

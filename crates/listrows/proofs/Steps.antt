@@ -1,4 +1,4 @@
--- A step: what it reads lies within the bytes, what it prints fits into a line's room. Assumes nothing.
+-- Where a whole record lies; a step by what stands first, and what it leaves. Assumes nothing.
 use mathlib.Core.Path.{_≡_, refl, sym, _∙_, ap, subst}
 use mathlib.Core.Bool.{Bool, true, false, cond, not}
 use mathlib.Core.List.{List}

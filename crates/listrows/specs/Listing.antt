@@ -47,6 +47,7 @@ opSlotsLent = 2163
 abbrev pub termSlotsLent : ℕ
 termSlotsLent = 507904
 
+-- "there too each length is one number for all trees, and the listing program lends exactly these"
 abbrev pub storageLent : Lent
 storageLent = lent (opsFrom + numsPerOp * opSlotsLent) (opBiasesFrom + biasesPerOp * opSlotsLent) termSlotsLent termSlotsLent 13920 6960 262144 262144
 
@@ -67,6 +68,7 @@ listFrom (Compiled.Refused r) o rows = refusedLine (numberOf (r .cause)) (r .pla
 abbrev pub treeKind : ℕ
 treeKind = 257
 
+-- "an outer record cut short, with length below 2 or not of the kind due, or no record at all, prints `bad record` and ends the run"
 unfoldable pub listingAt : Outer → List ℕ → List ℕ
 listingAt (Whole kind start end) bytes =
     cond (eqb kind treeKind) (let o = compileOf storageLent (take (end - start) (drop start bytes)) in listFrom (o .answer) o (drop end bytes)) badLine

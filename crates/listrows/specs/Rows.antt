@@ -89,7 +89,7 @@ stepOf s bytes number k = stepAt (outerAt bytes 0) s bytes number k
 
 -- ---- record after record, while there is room for a line more
 
--- before it: how many bytes were read, what was printed
+-- what is printed, how far the bytes are read, the next tick number, whether the run has ended, and what lasts
 pub record Run : Type 0 where
   pub text : List ℕ
   pub read : ℕ

@@ -164,14 +164,12 @@ pub(crate) fn number_at(line: &[u8], at: usize) -> Number {
     while i < line.len() {
         let digit = digit_of(line[i]);
         if 9 < digit {
-            return Number {
-                value: value,
-                next: i,
-            };
+            break;
         }
         value = with_digit(value, digit);
         i += 1;
     }
+    // A space with no digit after it is no number.
     if i == at + 1 {
         return Number { value: 0, next: 0 };
     }

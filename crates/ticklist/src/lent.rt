@@ -2,7 +2,7 @@
 ghost use mathlib.Core.Path.{_≡_};
 ghost use lib.ListN.{length};
 
-// Room for two outer records of the greatest length, so that there is always room to read on.
+// Twice what a record that still lacks bytes can have, so that there is always room to read on.
 pub(crate) fn buffer_room() -> [u8; 131072]
     ensures { λ r. ⌜ 131072 ≡ length r ⌝ }
 {

@@ -22,31 +22,6 @@ macro_rules! call {
     };
 }
 
-/// A circuit's counts, as include/palthengi.h has them.
-#[repr(C)]
-#[derive(Clone, Copy, Debug, Default, PartialEq)]
-pub struct Counts {
-    pub nodes: usize,
-    pub cursors: usize,
-    pub leaves: usize,
-    pub cells: usize,
-    pub ops: usize,
-    pub terms: usize,
-}
-
-impl Counts {
-    /// Of a circuit without ops and terms.
-    pub fn of_tree(nodes: usize, cursors: usize, leaves: usize) -> Self {
-        Self {
-            nodes,
-            cursors,
-            leaves,
-            cells: nodes + cursors + 3 * leaves,
-            ..Self::default()
-        }
-    }
-}
-
 /// Equal bits; all NaNs count as one.
 pub fn same(a: f32, b: f32) -> bool {
     a.to_bits() == b.to_bits() || (a.is_nan() && b.is_nan())

@@ -116,6 +116,10 @@ fn operations() {
         }
         shared += usize::from(row.used == before.used && row.len > 0);
         assert!(
+            row.used == before.used || row.used == row.first + row.len,
+            "case {case}: {row:?}"
+        );
+        assert!(
             holds(&pools, row, &want),
             "case {case}: {row:?} for {want:?}"
         );

@@ -8,7 +8,8 @@ pub mod linked;
 pub mod made;
 pub mod storage;
 
-pub use archive::{Counts, same};
+pub use archive::same;
+pub use reading::vectors::Counts;
 pub use storage::{Compilation, Lent, Refusal, Stored, Work};
 
 /// `same`, entry by entry.

@@ -1,9 +1,9 @@
 //! A circuit in the storage of docs/STORAGE.md, and the Rust's circuit turned into it.
 
-use archive::Counts;
 use behavior_machines_circuit::{Affine, Lowered, Op};
 use compare::circuit::rust_status;
 use compare::measure::output_forms;
+use reading::vectors::Counts;
 use reading::{Rng, State, Status};
 
 pub const OUTPUTS: usize = 384;

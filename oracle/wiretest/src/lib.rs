@@ -40,7 +40,8 @@ pub struct Form {
 
 /// The crate's answers.
 pub mod proved {
-    use archive::{Counts, call};
+    use archive::call;
+    use reading::vectors::Counts;
 
     use super::{Answer, Ended, Form, Storage};
 

@@ -1,6 +1,7 @@
 //! Random forms, ops and circuits, NaN, infinities, -0 and short tables among them: crate wirec answers as plain Rust does.
-use archive::{Counts, same};
+use archive::same;
 use reading::Rng;
+use reading::vectors::Counts;
 use wiretest::{Ended, FIXED_BIASES, FIXED_NUMS, Form, Random, Storage, plain, proved};
 
 /// How often each way out was taken: a test that meets one of them never has compared nothing.

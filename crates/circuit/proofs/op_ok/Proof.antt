@@ -1,5 +1,4 @@
 -- `circuit::op_ok` meets its contract. Assumes nothing.
-use mathlib.Core.Path.{sym, _∙_}
 use borrow.Author.Needs.{needs}
 use borrow.Author.Tests.{not-true, not-false}
 use Rattle.circuit.proofs.Passes.{op-of-neither, op-left, op-gate}

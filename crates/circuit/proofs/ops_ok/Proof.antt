@@ -8,7 +8,8 @@ use borrow.Author.Tests.{not-true, not-false}
 use Rattle.wire.specs.All.{all}
 use Rattle.wire.specs.Storage.{opsFrom}
 use Rattle.circuit.specs.Parts.{opRanges, opsRange}
-use Rattle.circuit.proofs.All.{all-start, all-turn, all-end, all-no}
+use Rattle.wire.proofs.Tests.{all-fails}
+use Rattle.circuit.proofs.All.{all-start, all-turn, all-end}
 use Rattle.circuit.proofs.ops_ok.Statement.{statement}
 use Rattle.circuit.proofs.ops_ok.Tie as tie
 
@@ -35,7 +36,7 @@ op-ok-requires c κs = search needs
 
 returns : tie.Need-returns Inv-loop μ-loop
 unfolding opsRange
-returns c = all-no _ (c .before .before .before .loop .i) (c .before .before .before .before .before .before .args .counts .ops) (omega arith) (sym (c .before .op-ok .ensures) ∙ not-true _ (c .if1 .taken))
+returns c = all-fails _ (c .before .before .before .loop .i) (c .before .before .before .before .before .before .args .counts .ops) (omega arith) (sym (c .before .op-ok .ensures) ∙ not-true _ (c .if1 .taken))
 
 add-i : tie.Need-add-i Inv-loop μ-loop
 add-i c = search needs

@@ -8,7 +8,8 @@ use borrow.Author.Tests.{not-true, not-false}
 use Rattle.wire.specs.All.{all}
 use Rattle.wire.specs.Storage.{outputsFrom, outputCount}
 use Rattle.circuit.specs.Parts.{rangeOk, outsRange}
-use Rattle.circuit.proofs.All.{all-start, all-turn, all-end, all-no}
+use Rattle.wire.proofs.Tests.{all-fails}
+use Rattle.circuit.proofs.All.{all-start, all-turn, all-end}
 use Rattle.circuit.proofs.outs_ok.Statement.{statement}
 use Rattle.circuit.proofs.outs_ok.Tie as tie
 
@@ -41,7 +42,7 @@ range-ok-requires c κs = search needs
 
 returns : tie.Need-returns Inv-loop μ-loop
 unfolding outsRange
-returns c = all-no _ (c .before .before .before .loop .k) (outputCount (c .before .before .before .before .before .before .before .before .before .args .counts)) (omega arith) (sym (c .before .range-ok .ensures) ∙ not-true _ (c .if1 .taken))
+returns c = all-fails _ (c .before .before .before .loop .k) (outputCount (c .before .before .before .before .before .before .before .before .before .args .counts)) (omega arith) (sym (c .before .range-ok .ensures) ∙ not-true _ (c .if1 .taken))
 
 add-k : tie.Need-add-k Inv-loop μ-loop
 add-k c = search needs

@@ -10,17 +10,23 @@ use ticktest::{all_same, law, linked, made};
 const RUNS: usize = 120_000;
 
 fn main() -> ExitCode {
-    let slip = match std::env::args().nth(2).as_deref() {
-        Some("order") => Slip::Order,
-        Some("own") => Slip::Own,
-        Some("wide") => Slip::Wide,
-        _ => Slip::None,
+    let arguments: Vec<String> = std::env::args().skip(1).collect();
+    let words: Vec<&str> = arguments.iter().map(String::as_str).collect();
+    let slip = match words[..] {
+        [] => Slip::None,
+        ["--wrong", "order"] => Slip::Order,
+        ["--wrong", "own"] => Slip::Own,
+        ["--wrong", "wide"] => Slip::Wide,
+        _ => {
+            eprintln!("usage: damage [--wrong order|own|wide]");
+            return ExitCode::from(2);
+        }
     };
     let mut rng = Rng::new(5);
     let mut seen: BTreeMap<u32, usize> = BTreeMap::new();
     for run in 0..RUNS {
         let mut stored = made::circuit(&mut rng);
-        // Every damage alone, then every pair, then at random; a third of the circuits are left whole.
+        // A third of the circuits are left whole, a third get each damage alone, a third each pair.
         let damages = match run % 3 {
             0 => Vec::new(),
             1 => vec![run / 3 % made::DAMAGES],
@@ -40,7 +46,14 @@ fn main() -> ExitCode {
             linked::tick(&stored, &row, &mut ours),
             law::tick(&stored, &row, &mut theirs, slip),
         );
-        let checks = (linked::check(&stored) == 0, law::is_circuit(&stored, slip));
+        let checks = (
+            linked::check(&stored),
+            if law::is_circuit(&stored, slip) {
+                0
+            } else {
+                17
+            },
+        );
         let verdicts = (
             linked::validate(&stored, &table),
             law::validate(&stored, &table, slip),

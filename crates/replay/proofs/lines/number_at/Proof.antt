@@ -33,9 +33,6 @@ shared-slice-read-digit-of c = search needs
 digit-of-requires : tie.Need-digit-of-requires Inv-loop μ-loop
 digit-of-requires c κs = search needs
 
-returns-3 : tie.Need-returns-3 Inv-loop μ-loop
-returns-3 c = search needs
-
 with-digit-requires : tie.Need-with-digit-requires Inv-loop μ-loop
 with-digit-requires c κs = search needs
 
@@ -51,11 +48,11 @@ loop-again c = search needs
 add-if4 : tie.Need-add-if4 Inv-loop μ-loop
 add-if4 c = search needs
 
+returns-3 : tie.Need-returns-3 Inv-loop μ-loop
+returns-3 c = search needs
+
 returns-4 : tie.Need-returns-4 Inv-loop μ-loop
 returns-4 c = search needs
-
-returns-5 : tie.Need-returns-5 Inv-loop μ-loop
-returns-5 c = search needs
 
 pub number-at-spec : {M : Type 1} → statement M
 number-at-spec =
@@ -70,11 +67,10 @@ number-at-spec =
     loop-holds
     shared-slice-read-digit-of
     digit-of-requires
-    returns-3
     with-digit-requires
     add-i-2
     loop-less
     loop-again
     add-if4
-    returns-4
-    returns-5)
+    returns-3
+    returns-4)
