@@ -13,12 +13,12 @@ use Rattle.wire.specs.declared.Form.{Form}
 use Rattle.wire.specs.declared.Term.{Term}
 use Rattle.wire.specs.Terms.{termsOf, constantForm}
 use Rattle.wire.specs.Storage.{termSlots}
-use Rattle.fits.specs.declared.Room.{Room}
-use Rattle.fits.specs.declared.Formed.{Formed}
-use Rattle.sums.specs.Sums.{kept, merge, times, scaledTerms}
-use Rattle.fits.specs.Fits.{singleFits, sumFits, scaledFits}
+use Rattle.arena_room.specs.declared.Room.{Room}
+use Rattle.arena_room.specs.declared.Formed.{Formed}
+use Rattle.arena_terms.specs.Sums.{kept, merge, times, scaledTerms}
+use Rattle.arena_room.specs.Fits.{singleFits, sumFits, scaledFits}
 use Rattle.arena.specs.Arena.{Outcome, Leaves, refusedIn, sharedIn, writtenIn, singleIn, plusIn, scaledIn, oneMinusIn, offsetForm}
-use Rattle.sums.specs.Steps.{Put}
+use Rattle.arena_terms.specs.Steps.{Put}
 
 -- ---- tests
 

@@ -13,11 +13,11 @@ use Rattle.wire.specs.declared.Form.{Form}
 use Rattle.wire.specs.declared.Term.{Term}
 use Rattle.wire.specs.Terms.{termsOf, constantForm}
 use Rattle.wire.specs.Storage.{termSlots}
-use Rattle.sums.specs.Sums.{kept, merge, times, scaledTerms}
-use Rattle.sums.specs.Steps.{wiresIn, coefsIn}
-use Rattle.fits.specs.declared.Room.{Room}
-use Rattle.fits.specs.declared.Formed.{Formed}
-use Rattle.fits.specs.Fits.{singleFits, sumFits, scaledFits}
+use Rattle.arena_terms.specs.Sums.{kept, merge, times, scaledTerms}
+use Rattle.arena_terms.specs.Steps.{wiresIn, coefsIn}
+use Rattle.arena_room.specs.declared.Room.{Room}
+use Rattle.arena_room.specs.declared.Formed.{Formed}
+use Rattle.arena_room.specs.Fits.{singleFits, sumFits, scaledFits}
 
 -- what an operation leaves and answers
 pub record Outcome : Type 0 where

@@ -1,7 +1,7 @@
 // Forms made in an arena: two lent pools of terms, of which those below a mark are in use. Nothing in use is written again, so a form keeps what it
 // stands for, and forms may share their terms. Every operation is total: where there is no room it writes nothing, and a flag falls and stays down.
-use fits::Formed;
-use fits::Room;
+use arena_room::Formed;
+use arena_room::Room;
 use index::Wire;
 use wire::Form;
 ghost use mathlib.Core.Path.{_≡_};
@@ -26,11 +26,11 @@ pub fn single(wires: &mut [u32], coefs: &mut [f32], room: Room, w: Wire) -> Form
     let number = w.0;
     let ok = room.ok;
     if !(ok & (used < wire::term_slots(wires.len(), coefs.len()))) {
-        return fits::refused(room);
+        return arena_room::refused(room);
     }
     wires[used] = number;
     coefs[used] = 1.0;
-    fits::written(0.0, used, used + 1)
+    arena_room::written(0.0, used, used + 1)
 }
 
 // The sum of two forms: sorted by wire, duplicates summed, zero coefficients dropped. A sum with a form without terms shares the other's terms.
@@ -41,17 +41,17 @@ pub fn plus(wires: &mut [u32], coefs: &mut [f32], room: Room, a: Form, b: Form) 
     let n = a.len;
     let m = b.len;
     if m == 0 {
-        return fits::shared(room, bias, a);
+        return arena_room::shared(room, bias, a);
     }
     if n == 0 {
-        return fits::shared(room, bias, b);
+        return arena_room::shared(room, bias, b);
     }
-    if !fits::sum_fits(wires.len(), coefs.len(), room, a, b) {
-        return fits::refused(room);
+    if !arena_room::sum_fits(wires.len(), coefs.len(), room, a, b) {
+        return arena_room::refused(room);
     }
     let used = room.used;
-    let next = merge::merge_terms(wires, coefs, used, a, b);
-    fits::written(bias, used, next)
+    let next = arena_terms::merge_terms(wires, coefs, used, a, b);
+    arena_room::written(bias, used, next)
 }
 
 // A form times a factor, with zero coefficients dropped, and no -0.0.
@@ -59,12 +59,12 @@ pub fn scaled(wires: &mut [u32], coefs: &mut [f32], room: Room, a: Form, factor:
     ensures { λ r. ⌜ Leaves (scaledIn (now (wires .entry)) (now (coefs .entry)) room a factor) (now (wires .exit)) (now (coefs .exit)) r ⌝ }
 {
     let bias = a.bias * factor + 0.0;
-    if !fits::scaled_fits(wires.len(), coefs.len(), room, a) {
-        return fits::refused(room);
+    if !arena_room::scaled_fits(wires.len(), coefs.len(), room, a) {
+        return arena_room::refused(room);
     }
     let used = room.used;
-    let next = merge::scale_terms(wires, coefs, used, a, factor);
-    fits::written(bias, used, next)
+    let next = arena_terms::scale_terms(wires, coefs, used, a, factor);
+    arena_room::written(bias, used, next)
 }
 
 // 1 less a form.

@@ -2,15 +2,15 @@
 // constant. The two identities hold of counts, which are natural numbers:
 //   [count == 0] = max(0, 1 - count)
 //   [count >= k] = max(0, count - k + 1) - max(0, count - k)
-use table::Builder;
-use table::Made;
+use builder_table::Builder;
+use builder_table::Made;
 use wire::Form;
 ghost use mathlib.Core.Path.{_≡_};
 ghost use mathlib.Core.List.{List};
 ghost use Prim.Native.Nat.{ℕ};
 ghost use lib.Ieee.{Float};
-ghost use Rattle.table.specs.Work.{Whole, mem, ended};
-ghost use Rattle.table.specs.Steps.{oneMinusIn, plusIn};
+ghost use Rattle.builder_table.specs.Work.{Whole, mem, ended};
+ghost use Rattle.builder_table.specs.Steps.{oneMinusIn, plusIn};
 ghost use Rattle.builder.specs.Bits.{bitForm, isTrue, isFalse, minusIn, reluIn, isZeroIn, stepIn, atLeastIn, andIn, eitherIn, orIn};
 
 // A form that holds exactly 0 or 1.
@@ -59,7 +59,7 @@ pub fn not(wires: &mut [u32], coefs: &mut [f32], builder: Builder, bit: Bit) -> 
         ≡ oneMinusIn (mem (now (wires .entry)) (now (coefs .entry)) nums biases) builder (bit .0)) ⌝ }
 {
     let f = bit.0;
-    let r = table::one_minus(wires, coefs, builder, f);
+    let r = builder_table::one_minus(wires, coefs, builder, f);
     let form = r.form;
     let next = r.builder;
     Decided {
@@ -81,7 +81,7 @@ pub fn or_disjoint(
 {
     let f = left.0;
     let g = right.0;
-    let r = table::plus(wires, coefs, builder, f, g);
+    let r = builder_table::plus(wires, coefs, builder, f, g);
     let form = r.form;
     let next = r.builder;
     Decided {
@@ -94,10 +94,10 @@ fn minus(wires: &mut [u32], coefs: &mut [f32], builder: Builder, f: Form, g: For
     ensures { λ r. ⌜ ((nums : List ℕ) (biases : List Float) → ended (now (wires .exit)) (now (coefs .exit)) nums biases (r .builder) (r .form)
         ≡ minusIn (mem (now (wires .entry)) (now (coefs .entry)) nums biases) builder f g) ⌝ }
 {
-    let n = table::scaled(wires, coefs, builder, g, -1.0);
+    let n = builder_table::scaled(wires, coefs, builder, g, -1.0);
     let less = n.form;
     let next = n.builder;
-    table::plus(wires, coefs, next, f, less)
+    builder_table::plus(wires, coefs, next, f, less)
 }
 
 // `max(0, form)`. One op.
@@ -114,7 +114,7 @@ fn relu(
         ≡ reluIn (mem (now (wires .entry)) (now (coefs .entry)) (now (nums .entry)) (now (biases .entry))) builder form ⌝ }
 {
     let one = Form::constant(1.0);
-    table::push(wires, coefs, nums, biases, builder, one, form)
+    builder_table::push(wires, coefs, nums, biases, builder, one, form)
 }
 
 // `[count == 0]`. One op, or none if the count is constant.
@@ -137,7 +137,7 @@ pub fn is_zero(
         let bit = Bit::constant(bias == 0.0);
         return Decided { bit, builder };
     }
-    let n = table::one_minus(wires, coefs, builder, f);
+    let n = builder_table::one_minus(wires, coefs, builder, f);
     let less = n.form;
     let next = n.builder;
     let r = relu(wires, coefs, nums, biases, next, less);
@@ -232,7 +232,7 @@ pub fn and(
     }
     let f = left.0;
     let g = right.0;
-    let r = table::push(wires, coefs, nums, biases, builder, f, g);
+    let r = builder_table::push(wires, coefs, nums, biases, builder, f, g);
     let form = r.form;
     let next = r.builder;
     Decided {
@@ -255,10 +255,10 @@ fn either(
     ensures { λ r. ⌜ ended (now (wires .exit)) (now (coefs .exit)) (now (nums .exit)) (now (biases .exit)) (r .builder) (r .form)
         ≡ eitherIn (mem (now (wires .entry)) (now (coefs .entry)) (now (nums .entry)) (now (biases .entry))) builder f g ⌝ }
 {
-    let both = table::push(wires, coefs, nums, biases, builder, f, g);
+    let both = builder_table::push(wires, coefs, nums, biases, builder, f, g);
     let product = both.form;
     let u = both.builder;
-    let sum = table::plus(wires, coefs, u, f, g);
+    let sum = builder_table::plus(wires, coefs, u, f, g);
     let s = sum.form;
     let v = sum.builder;
     minus(wires, coefs, v, s, product)

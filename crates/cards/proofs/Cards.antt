@@ -8,34 +8,34 @@ use mathlib.Core.List.{List, [], _∷_, _++_, map}
 use borrow.Author.Tests.{leb-true}
 use lib.Dec.{leb}
 use lib.ListN.{length, getD, take, drop}
-use Rattle.kinds.specs.Kinds.{rows, rowOf}
+use Rattle.tree_kinds.specs.Kinds.{rows, rowOf}
 use Rattle.tree.specs.Forest.{Forest, none, node, preorder, counts, size}
 use Rattle.tree.specs.Bytes.{Within, bytesOf}
-use Rattle.record.specs.Record.{recordAt}
+use Rattle.tree_record.specs.Record.{recordAt}
 use Rattle.tree.specs.Tree.{refusedAt, parse, treeOf}
-use Rattle.record.specs.Refusal.{numberOf, kindOf}
-use Rattle.record.specs.declared.refusal.Cause.{Cause}
-use Rattle.record.specs.declared.refusal.Cause.the-variants as cause
+use Rattle.tree_record.specs.Refusal.{numberOf, kindOf}
+use Rattle.tree_record.specs.declared.refusal.Cause.{Cause}
+use Rattle.tree_record.specs.declared.refusal.Cause.the-variants as cause
 use Rattle.plan.specs.Plan.{leavesOf, cursorsOf}
 use Rattle.wire.specs.declared.Counts.{Counts}
 use Rattle.wire.specs.Storage.{opsFrom, opBiasesFrom}
-use Rattle.wire.proofs.Tests.{both-left, both-right}
+use Rattle.lists.proofs.Tests.{both-left, both-right}
 use Rattle.walk.specs.Lists.{All}
 use Rattle.walk.specs.Walk.{Answer, cellsIn, slotsIn, walk}
 use Rattle.walk.specs.Cards as walks
 use Rattle.construct.specs.Circuit.{flats, construct, opCount}
 use Rattle.construct.specs.Pairs.{pairs}
 use Rattle.construct.specs.Cards as construction
-use Rattle.meaning.proofs.Sizes.{sizes}
-use Rattle.floats.specs.Floats.{floats}
-use Rattle.faithful.specs.Float.{float}
-use Rattle.faithful.proofs.Same.{faithful}
-use Rattle.rooms.proofs.Counted.{op-count}
-use Rattle.lane.specs.Lane.{Lent}
-use Rattle.compiled.specs.Compile as compile
-use Rattle.compiles.specs.Compiles.{treeCircuit}
+use Rattle.construct_means.proofs.Sizes.{sizes}
+use Rattle.construct_floats.specs.Floats.{floats}
+use Rattle.construct_faithful.specs.Float.{float}
+use Rattle.construct_faithful.proofs.Same.{faithful}
+use Rattle.lower_room.proofs.Counted.{op-count}
+use Rattle.tick_lane.specs.Lane.{Lent}
+use Rattle.compile.specs.Compile as compile
+use Rattle.compile_laws.specs.Compiles.{treeCircuit}
 use Rattle.tree.proofs.Lengths.{preorder-length}
-use Rattle.planned.proofs.Nodes.{leaves-count}
+use Rattle.plan_laws.proofs.Nodes.{leaves-count}
 use Rattle.demands.specs.Demands.{Compiles, ValidRow, Ready, over, walked}
 use Rattle.demands.proofs.Demand2.{demand-2}
 use Rattle.demands.proofs.Trees.{compiles-all}

@@ -4,15 +4,15 @@ use mathlib.Core.Path.{_≡_}
 use mathlib.Core.Bool.{true}
 use mathlib.Core.List.{List, [], _∷_, _++_}
 use lib.ListN.{length}
-use Rattle.record.specs.Refusal.{numberOf, kindOf}
+use Rattle.tree_record.specs.Refusal.{numberOf, kindOf}
 use Rattle.wire.specs.declared.Counts.{Counts}
 use Rattle.wire.specs.Storage.{opSlots, termSlots}
-use Rattle.circuit.specs.Check.{stored}
-use Rattle.lane.specs.declared.Ticked.the-variants.{Accepted}
-use Rattle.lane.specs.Lane.{Lent, Outcome}
+use Rattle.tick_check.specs.Check.{stored}
+use Rattle.tick_lane.specs.declared.Ticked.the-variants.{Accepted}
+use Rattle.tick_lane.specs.Lane.{Lent, Outcome}
 use Rattle.tick.specs.Tick.{tickOf}
-use Rattle.compiled.specs.declared.Compiled.{Compiled}
-use Rattle.compiled.specs.Compile as compile
+use Rattle.compile.specs.declared.Compiled.{Compiled}
+use Rattle.compile.specs.Compile as compile
 use Rattle.demands.specs.Demands.{over}
 
 -- what compile says, in document 01's words: a number, its place and its kind; or how many cells and ops the circuit has

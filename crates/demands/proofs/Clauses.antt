@@ -12,7 +12,7 @@ use Rattle.tree.specs.Bytes as limits
 use Rattle.wire.specs.declared.Counts.{Counts}
 use Rattle.wire.specs.Terms.{Affine}
 use Rattle.wire.specs.Storage as W
-use Rattle.wire.proofs.Entries.{each-getD}
+use Rattle.lists.proofs.Entries.{each-getD}
 use Rattle.walk.specs.Kind as K
 use Rattle.walk.specs.Lists.{All}
 use Rattle.walk.specs.Status.{Status, isS, isF, isR, codeOf, notTicked}
@@ -22,29 +22,29 @@ use Rattle.construct.specs.Builder as B
 use Rattle.construct.specs.Circuit.{Circuit, formsOf, opForms}
 use Rattle.construct.specs.Pairs.{Form}
 use Rattle.construct.specs.Value as nat
-use Rattle.sizes.specs.Exact.{Sums}
-use Rattle.meaning.specs.Means as means
-use Rattle.faithful.specs.Float.{float}
-use Rattle.agree.proofs.Values.{numbers}
-use Rattle.circuit.specs.Check.{Stored}
-use Rattle.evaluate.specs.Evaluate as E
-use Rattle.evaluate.proofs.Cells.{table-length}
-use Rattle.lane.specs.declared.Ticked.the-variants as is
-use Rattle.lane.specs.Lane.{Lent, outcome}
-use Rattle.compiled.specs.Encode.{outputsIn}
-use Rattle.compiled.specs.Compile as compile
-use Rattle.encoded.specs.Encoded.{opIn}
-use Rattle.encoded.proofs.Sets.{map-at}
-use Rattle.encoded.proofs.Back.{encoded-is}
-use Rattle.compiles.specs.Compiles.{treeCircuit, storedOf, Slots}
-use Rattle.compiles.proofs.Shape.{in-floats}
-use Rattle.compiles.proofs.Images.{all-getD, form-images}
-use Rattle.compiles.proofs.Passes.{F}
-use Rattle.ticks.specs.Values.{valuesOf}
-use Rattle.ticks.proofs.Fills.{bit-number}
-use Rattle.ticks.proofs.Outs as outs
-use Rattle.ticks.proofs.Bits.{node-at}
-use Rattle.ticks.proofs.Sound.{noFate}
+use Rattle.construct_sizes.specs.Exact.{Sums}
+use Rattle.construct_means.specs.Means as means
+use Rattle.construct_faithful.specs.Float.{float}
+use Rattle.construct_faithful.proofs.Values.{numbers}
+use Rattle.tick_check.specs.Check.{Stored}
+use Rattle.tick_lane.specs.Evaluate as E
+use Rattle.tick_lane.proofs.Cells.{table-length}
+use Rattle.tick_lane.specs.declared.Ticked.the-variants as is
+use Rattle.tick_lane.specs.Lane.{Lent, outcome}
+use Rattle.compile.specs.Encode.{outputsIn}
+use Rattle.compile.specs.Compile as compile
+use Rattle.compile_laws.specs.Encoded.{opIn}
+use Rattle.lists.proofs.Sets.{map-at}
+use Rattle.compile_laws.proofs.Back.{encoded-is}
+use Rattle.compile_laws.specs.Compiles.{treeCircuit, storedOf, Slots}
+use Rattle.compile_laws.proofs.Shape.{in-floats}
+use Rattle.compile_laws.proofs.Images.{all-getD, form-images}
+use Rattle.compile_laws.proofs.Passes.{F}
+use Rattle.tick_laws.specs.Values.{valuesOf}
+use Rattle.tick_laws.proofs.Fills.{bit-number}
+use Rattle.tick_laws.proofs.Outs as outs
+use Rattle.tick_laws.proofs.Bits.{node-at}
+use Rattle.tick_laws.proofs.Sound.{noFate}
 use Rattle.demands.specs.Demands.{ValidRow, Ready, over, walked, OneOfThree, NeverBoth, SumsWhole, opsForms, everyForm, Sure}
 use Rattle.demands.proofs.Once.{given, fate-count, outs-same}
 

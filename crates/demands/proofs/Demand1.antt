@@ -46,23 +46,23 @@ use Rattle.exact.specs.Whole.{zero32}
 use Rattle.tree.specs.Forest.{Forest, preorder, counts}
 use Rattle.tree.specs.Bytes.{Bytes, Within, bytesOf}
 use Rattle.tree.specs.Tree.{Parsed, accepted, refused, treeOf, flatOf, answerOf, kindsIn, countsIn}
-use Rattle.record.specs.Record.{recordAt}
-use Rattle.record.specs.Refusal.{numberOf, kindOf}
+use Rattle.tree_record.specs.Record.{recordAt}
+use Rattle.tree_record.specs.Refusal.{numberOf, kindOf}
 use Rattle.tree.specs.declared.flat.Flattened.{Flattened}
-use Rattle.record.specs.declared.record.Record.{Record}
-use Rattle.record.specs.declared.refusal.Cause.{Cause}
-use Rattle.record.specs.declared.refusal.Cause.the-variants.{NoOpRoom, NoTermRoom, ShortRoom}
-use Rattle.record.specs.declared.refusal.Refusal.{Refusal}
+use Rattle.tree_record.specs.declared.record.Record.{Record}
+use Rattle.tree_record.specs.declared.refusal.Cause.{Cause}
+use Rattle.tree_record.specs.declared.refusal.Cause.the-variants.{NoOpRoom, NoTermRoom, ShortRoom}
+use Rattle.tree_record.specs.declared.refusal.Refusal.{Refusal}
 use Rattle.text.specs.Text.{placed}
-use Rattle.trees.proofs.Exact.{accepts}
+use Rattle.tree_laws.proofs.Exact.{accepts}
 use Rattle.wire.specs.declared.Counts.{Counts}
 use Rattle.wire.specs.Storage.{opSlots, termSlots}
-use Rattle.floats.specs.Floats.{floats}
+use Rattle.construct_floats.specs.Floats.{floats}
 use Rattle.construct.specs.Circuit.{opCount, termCount}
-use Rattle.circuit.specs.Check.{Stored}
-use Rattle.compiled.specs.declared.Compiled.{Compiled}
-use Rattle.compiled.specs.Compile.{Lent, Outcome, roomy, refusal, circuitOf, countsOf, stored, compileTree, compileOf}
-use Rattle.compiles.specs.Compiles.{treeCircuit}
+use Rattle.tick_check.specs.Check.{Stored}
+use Rattle.compile.specs.declared.Compiled.{Compiled}
+use Rattle.compile.specs.Compile.{Lent, Outcome, roomy, refusal, circuitOf, countsOf, stored, compileTree, compileOf}
+use Rattle.compile_laws.specs.Compiles.{treeCircuit}
 use Rattle.demands.specs.Demands.{Compiles}
 use Rattle.demands.proofs.Left.{left-by}
 use Rattle.demands.proofs.Trees.{compiled-tree, compiles-all}

@@ -5,11 +5,11 @@ use mathlib.Core.List.{List}
 use Prim.Native.Nat.{ℕ}
 use Rattle.tree.specs.Forest.{Forest}
 use Rattle.wire.specs.declared.Counts.{Counts}
-use Rattle.circuit.specs.Check.{Stored}
-use Rattle.lane.specs.declared.Ticked.the-variants.{Accepted}
-use Rattle.lane.specs.Lane.{Lent, outcome}
+use Rattle.tick_check.specs.Check.{Stored}
+use Rattle.tick_lane.specs.declared.Ticked.the-variants.{Accepted}
+use Rattle.tick_lane.specs.Lane.{Lent, outcome}
 use Rattle.tick.specs.Tick.{tickOf}
-use Rattle.compiled.specs.Compile as compile
+use Rattle.compile.specs.Compile as compile
 use Rattle.demands.specs.Demands.{Compiles, leftIn, ValidRow, Ready, walked}
 use Rattle.demands.proofs.Left.{left-by}
 use Rattle.demands.proofs.Once.{ticks}

@@ -9,12 +9,12 @@ use Rattle.tree.specs.Forest.{Forest}
 use Rattle.tree.specs.Bytes as limits
 use Rattle.wire.specs.declared.Counts.{Counts}
 use Rattle.walk.specs.Lists.{All}
-use Rattle.circuit.specs.Check.{Stored}
-use Rattle.lane.specs.declared.Ticked.the-variants.{Accepted}
-use Rattle.lane.specs.Lane.{Lent, Outcome, outcome}
+use Rattle.tick_check.specs.Check.{Stored}
+use Rattle.tick_lane.specs.declared.Ticked.the-variants.{Accepted}
+use Rattle.tick_lane.specs.Lane.{Lent, Outcome, outcome}
 use Rattle.tick.specs.Tick.{tickOf}
-use Rattle.compiled.specs.Compile as compile
-use Rattle.compiles.specs.Compiles.{treeCircuit, storedOf, Slots}
+use Rattle.compile.specs.Compile as compile
+use Rattle.compile_laws.specs.Compiles.{treeCircuit, storedOf, Slots}
 use Rattle.demands.specs.Demands.{Compiles, leftIn, ValidRow, Ready, walked, runs, walks, Sure}
 use Rattle.demands.proofs.Left.{left-by}
 use Rattle.demands.proofs.Once.{ticks}

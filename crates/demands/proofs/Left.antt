@@ -8,17 +8,17 @@ use lib.Dec.{leb, ltb}
 use Rattle.tree.specs.Forest.{Forest, preorder, counts}
 use Rattle.tree.specs.Bytes.{bytesOf}
 use Rattle.tree.specs.Tree.{Parsed, accepted, treeOf}
-use Rattle.record.specs.declared.refusal.Cause.{Cause}
-use Rattle.record.specs.declared.refusal.Cause.the-variants.{NoOpRoom, NoTermRoom, ShortRoom}
-use Rattle.trees.proofs.Exact.{accepts}
+use Rattle.tree_record.specs.declared.refusal.Cause.{Cause}
+use Rattle.tree_record.specs.declared.refusal.Cause.the-variants.{NoOpRoom, NoTermRoom, ShortRoom}
+use Rattle.tree_laws.proofs.Exact.{accepts}
 use Rattle.wire.specs.declared.Counts.{Counts}
 use Rattle.wire.specs.Storage.{opsFrom, opBiasesFrom, opSlots, termSlots}
-use Rattle.wire.proofs.Tests.{both-left, both-right}
-use Rattle.floats.specs.Floats.{floats}
+use Rattle.lists.proofs.Tests.{both-left, both-right}
+use Rattle.construct_floats.specs.Floats.{floats}
 use Rattle.construct.specs.Circuit.{opCount, termCount}
-use Rattle.compiled.specs.declared.Compiled.{Compiled}
-use Rattle.compiled.specs.Compile.{Lent, Outcome, roomy, refusal, countsOf, stored, compileTree, compileOf}
-use Rattle.compiles.specs.Compiles.{treeCircuit, storedOf, Slots}
+use Rattle.compile.specs.declared.Compiled.{Compiled}
+use Rattle.compile.specs.Compile.{Lent, Outcome, roomy, refusal, countsOf, stored, compileTree, compileOf}
+use Rattle.compile_laws.specs.Compiles.{treeCircuit, storedOf, Slots}
 use Rattle.demands.specs.Demands.{Compiles, leftIn}
 
 pub clash : (l : Lent) (c : Cause) (p : ℕ) (n : Counts) → refusal l c p .answer ≡ Compiled.Accepted n → ⊥

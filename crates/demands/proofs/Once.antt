@@ -14,37 +14,37 @@ use Rattle.plan.specs.Plan.{placesFrom}
 use Rattle.plan.proofs.Laws.{places-rise}
 use Rattle.wire.specs.declared.Counts.{Counts}
 use Rattle.wire.specs.Storage.{leavesFrom}
-use Rattle.fill.specs.Fill.{prefix}
-use Rattle.verdict.specs.declared.Validated.{Validated}
-use Rattle.verdict.specs.declared.Validated.the-variants.{Sound}
-use Rattle.verdict.specs.Verdict.{tickVerdict, nodeOf}
+use Rattle.lists.specs.Fill.{prefix}
+use Rattle.tick_verdict.specs.declared.Validated.{Validated}
+use Rattle.tick_verdict.specs.declared.Validated.the-variants.{Sound}
+use Rattle.tick_verdict.specs.Verdict.{tickVerdict, nodeOf}
 use Rattle.walk.specs.Lists.{All}
 use Rattle.walk.specs.Walk.{Fate, fatesOf, walk, answerOf, cellsIn, slotsIn}
 use Rattle.walk.proofs.Laws.{lengths, cursors-low}
-use Rattle.meaning.specs.Means as means
-use Rattle.agree.proofs.Values.{numbers}
-use Rattle.answers.specs.Answers.{edgeAt}
-use Rattle.circuit.specs.Check.{Stored}
-use Rattle.evaluate.specs.Evaluate.{tableOf, outsOf}
-use Rattle.lane.specs.declared.Ticked.{Ticked}
-use Rattle.lane.specs.declared.Ticked.the-variants as is
-use Rattle.lane.specs.Lane.{unless, Lent, lent, outcome, after, firstAbove, inputsOf, isSound, written, settleOf, computed, laneOf}
+use Rattle.construct_means.specs.Means as means
+use Rattle.construct_faithful.proofs.Values.{numbers}
+use Rattle.tick_lane.specs.Answers.{edgeAt}
+use Rattle.tick_check.specs.Check.{Stored}
+use Rattle.tick_lane.specs.Evaluate.{tableOf, outsOf}
+use Rattle.tick_lane.specs.declared.Ticked.{Ticked}
+use Rattle.tick_lane.specs.declared.Ticked.the-variants as is
+use Rattle.tick_lane.specs.Lane.{unless, Lent, lent, outcome, after, firstAbove, inputsOf, isSound, written, settleOf, computed, laneOf}
 use Rattle.tick.specs.Tick.{shapesOf, gateOf, tickOf}
-use Rattle.compiled.specs.Compile as compile
-use Rattle.encoded.proofs.Sets.{map-at}
-use Rattle.encoded.proofs.Back as back
-use Rattle.compiles.specs.Compiles.{treeCircuit, storedOf, Slots}
+use Rattle.compile.specs.Compile as compile
+use Rattle.lists.proofs.Sets.{map-at}
+use Rattle.compile_laws.proofs.Back as back
+use Rattle.compile_laws.specs.Compiles.{treeCircuit, storedOf, Slots}
 use Rattle.tree.proofs.Lengths.{preorder-length}
-use Rattle.planned.proofs.Nodes.{leaves-are, leaves-count, cursors-count, leaf-tests}
-use Rattle.compiles.proofs.Shape.{fates-length}
-use Rattle.compiles.proofs.Images.{all-getD}
-use Rattle.compiles.proofs.Rises.{rising-below}
-use Rattle.compiles.proofs.Passes.{F, circuit-ok}
-use Rattle.ticks.specs.Values.{valuesOf}
-use Rattle.ticks.proofs.Outs.{outs-are}
-use Rattle.ticks.proofs.Sound.{verdict-sound}
-use Rattle.ticks.proofs.Written.{prefix-is, statuses-are, halts-are, flags-are, cursors-are, edge-is}
-use Rattle.ticks.proofs.Edges.{edgeOf, edges-are}
+use Rattle.plan_laws.proofs.Nodes.{leaves-are, leaves-count, cursors-count, leaf-tests}
+use Rattle.compile_laws.proofs.Shape.{fates-length}
+use Rattle.compile_laws.proofs.Images.{all-getD}
+use Rattle.compile_laws.proofs.Rises.{rising-below}
+use Rattle.compile_laws.proofs.Passes.{F, circuit-ok}
+use Rattle.tick_laws.specs.Values.{valuesOf}
+use Rattle.tick_laws.proofs.Outs.{outs-are}
+use Rattle.tick_laws.proofs.Sound.{verdict-sound}
+use Rattle.tick_laws.proofs.Written.{prefix-is, statuses-are, halts-are, flags-are, cursors-are, edge-is}
+use Rattle.tick_laws.proofs.Edges.{edgeOf, edges-are}
 use Rattle.demands.specs.Demands.{ValidRow, Ready, over, walked}
 
 -- ---- 15 and 16

@@ -10,24 +10,24 @@ use lib.ListN.{length, length-map}
 use Rattle.tree.specs.Forest.{Forest, preorder, counts}
 use Rattle.tree.specs.Bytes.{Bytes, Within, bytesOf}
 use Rattle.tree.specs.Tree.{Parsed, accepted, refused, treeOf}
-use Rattle.record.specs.declared.refusal.Cause.the-variants.{NoOpRoom, NoTermRoom, ShortRoom}
-use Rattle.trees.proofs.Exact.{accepts, accepted-tree}
+use Rattle.tree_record.specs.declared.refusal.Cause.the-variants.{NoOpRoom, NoTermRoom, ShortRoom}
+use Rattle.tree_laws.proofs.Exact.{accepts, accepted-tree}
 use Rattle.wire.specs.declared.Counts.{Counts}
 use Rattle.wire.specs.Terms.{Affine}
 use Rattle.wire.specs.Storage.{opSlots, termSlots}
 use Rattle.construct.specs.Circuit.{Circuit, opCount, termCount, termsIn, formsOf}
 use Rattle.construct.specs.Pairs.{Form, pairs}
-use Rattle.floats.specs.Floats.{floats}
-use Rattle.faithful.specs.Float.{float, floatTerm}
-use Rattle.instances.specs.Respects.{ofOp}
-use Rattle.meaning.specs.Means.{circuitOf}
-use Rattle.counts.proofs.Circuit.{ops-slots, terms-most}
-use Rattle.compiled.specs.declared.Compiled.{Compiled}
-use Rattle.compiled.specs.Compile.{Lent, roomy, refusal, countsOf, stored, compileTree, compileOf}
-use Rattle.compiles.specs.Compiles.{treeCircuit}
-use Rattle.compiles.proofs.Shape.{in-floats}
-use Rattle.compiles.proofs.Images.{form-images}
-use Rattle.compiles.proofs.Passes.{some-node}
+use Rattle.construct_floats.specs.Floats.{floats}
+use Rattle.construct_faithful.specs.Float.{float, floatTerm}
+use Rattle.construct_instances.specs.Respects.{ofOp}
+use Rattle.construct_means.specs.Means.{circuitOf}
+use Rattle.lower_room.proofs.CountCircuit.{ops-slots, terms-most}
+use Rattle.compile.specs.declared.Compiled.{Compiled}
+use Rattle.compile.specs.Compile.{Lent, roomy, refusal, countsOf, stored, compileTree, compileOf}
+use Rattle.compile_laws.specs.Compiles.{treeCircuit}
+use Rattle.compile_laws.proofs.Shape.{in-floats}
+use Rattle.compile_laws.proofs.Images.{form-images}
+use Rattle.compile_laws.proofs.Passes.{some-node}
 use Rattle.demands.specs.Demands.{Compiles}
 use Rattle.demands.proofs.Left.{clash, passed}
 

@@ -15,13 +15,13 @@ use Rattle.wire.specs.Storage.{Op, affine, reglu, neither, Circuit, circuitOf}
 use Rattle.walk.specs.Lists.{All}
 use Rattle.walk.specs.Status.{Status, isS, isF, isR, notTicked}
 use Rattle.walk.specs.Walk.{cellsIn, slotsIn, walk}
-use Rattle.circuit.specs.Check.{Stored, stored}
-use Rattle.evaluate.specs.Evaluate.{bit, tableOf, outValue}
-use Rattle.lane.specs.declared.Ticked.the-variants.{Accepted}
-use Rattle.lane.specs.Lane.{Lent, Outcome, lent, outcome}
+use Rattle.tick_check.specs.Check.{Stored, stored}
+use Rattle.tick_lane.specs.Evaluate.{bit, tableOf, outValue}
+use Rattle.tick_lane.specs.declared.Ticked.the-variants.{Accepted}
+use Rattle.tick_lane.specs.Lane.{Lent, Outcome, lent, outcome}
 use Rattle.tick.specs.Tick.{tickOf}
-use Rattle.compiled.specs.declared.Compiled as answers
-use Rattle.compiled.specs.Compile as compile
+use Rattle.compile.specs.declared.Compiled as answers
+use Rattle.compile.specs.Compile as compile
 
 -- ---- what is given
 

@@ -1,6 +1,6 @@
-pub mod Whole
-pub mod Tests
+pub mod Cursor
+pub mod Naturals
 pub mod Rounds
 pub mod Small
-pub mod Naturals
-pub mod Cursor
+pub mod Tests
+pub mod Whole

@@ -14,21 +14,20 @@ use lib.Ieee.{Float}
 use Rattle.exact.specs.Whole.{zero32}
 use Rattle.tree.specs.declared.flat.Flattened.{Flattened}
 use Rattle.tree.specs.declared.flat.Flattened.the-variants.{Accepted, Refused}
-use Rattle.record.specs.declared.refusal.Refusal.{Refusal}
-use Rattle.record.specs.declared.refusal.Cause.the-variants.{ShortRoom}
+use Rattle.tree_record.specs.declared.refusal.Refusal.{Refusal}
+use Rattle.tree_record.specs.declared.refusal.Cause.the-variants.{ShortRoom}
 use Rattle.tree.specs.Tree.{Parsed, accepted, refused, treeOf, flatOf, answerOf, kindsIn, countsIn, padded}
 use Rattle.tree.specs.Bytes.{Bytes}
-use Rattle.compiled.specs.declared.Compiled.{Compiled}
+use Rattle.compile.specs.declared.Compiled.{Compiled}
 use Rattle.plan.specs.Plan.{leavesOf, cursorsOf}
-use Rattle.compiled.specs.Encode.{listNums}
-use Rattle.compiled.specs.Compile.{Lent, lent, Outcome, circuitOf, listsOf, roomy, compileTree, compileOf}
-use Rattle.table.specs.Work.{Mem}
-use Rattle.gates.specs.Gates.{Stood}
-use Rattle.build.specs.Build.{buildIn}
-use Rattle.emit.specs.Emit.{allLens, outputsMany, OpsInside, OutputsInside}
-use Rattle.settle.specs.Settle.{outcome, listedIn, settledIn}
-use Rattle.settles.specs.Built.{BuiltAs, Builds}
-use Rattle.settles.proofs.Settled.{terms-are, ops-inside, outputs-inside, settled-is}
+use Rattle.compile.specs.Encode.{listNums}
+use Rattle.compile.specs.Compile.{Lent, lent, Outcome, circuitOf, listsOf, roomy, compileTree, compileOf}
+use Rattle.builder_table.specs.Work.{Mem, Stood}
+use Rattle.lower_passes.specs.Build.{buildIn}
+use Rattle.lower_emit.specs.Emit.{allLens, outputsMany, OpsInside, OutputsInside}
+use Rattle.lower_emit.specs.Settle.{outcome, listedIn, settledIn}
+use Rattle.lower_emit_laws.specs.Built.{BuiltAs, Builds}
+use Rattle.lower_emit_laws.proofs.Settled.{terms-are, ops-inside, outputs-inside, settled-is}
 use Rattle.lower.specs.Lower.{passedOn}
 
 -- building with the lists' own lengths

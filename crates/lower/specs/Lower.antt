@@ -4,9 +4,9 @@ use mathlib.Core.List.{List}
 use Prim.Native.Nat.{ℕ}
 use lib.Ieee.{Float}
 use Rattle.tree.specs.declared.flat.Flattened.{Flattened}
-use Rattle.record.specs.declared.refusal.Cause.the-variants.{ShortRoom}
-use Rattle.compiled.specs.declared.Compiled.{Compiled}
-use Rattle.settle.specs.Settle.{zeros, zeros32}
+use Rattle.tree_record.specs.declared.refusal.Cause.the-variants.{ShortRoom}
+use Rattle.compile.specs.declared.Compiled.{Compiled}
+use Rattle.lower_emit.specs.Settle.{zeros, zeros32}
 
 -- all slots of a circuit's storage are zero
 pub record Zeroed (nums : List ℕ) (biases : List Float) (wires : List ℕ) (coefs : List Float) : Type 0 where

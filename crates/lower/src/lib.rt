@@ -1,17 +1,17 @@
 // compile: from a tree's bytes to a circuit in lent storage.
-use compiled::Compiled;
-use record::Cause;
-use record::Refusal;
+use compile::Compiled;
 use tree::Flattened;
+use tree_record::Cause;
+use tree_record::Refusal;
 ghost use mathlib.Core.Path.{_≡_};
 ghost use Prim.Native.Nat.{_≤_};
 ghost use lib.ListN.{length};
 ghost use Rattle.tree.specs.Tree.{accepted, treeOf};
-ghost use Rattle.compiled.specs.Compile.{lent, compileTree, compileOf};
-ghost use Rattle.table.specs.Work.{Whole, mem};
-ghost use Rattle.emit.specs.Emit.{Holds};
-ghost use Rattle.settle.specs.Settle.{outcome, zeros, zeros32};
-ghost use Rattle.settles.specs.Built.{Builds, Buildable};
+ghost use Rattle.compile.specs.Compile.{lent, compileTree, compileOf};
+ghost use Rattle.builder_table.specs.Work.{Whole, mem};
+ghost use Rattle.lower_emit.specs.Emit.{Holds};
+ghost use Rattle.lower_emit.specs.Settle.{outcome, zeros, zeros32};
+ghost use Rattle.lower_emit_laws.specs.Built.{Builds, Buildable};
 ghost use Rattle.lower.specs.Lower.{Zeroed, passedOn};
 
 // The nodes of an accepted tree, of which building gives the circuit.
@@ -34,10 +34,10 @@ fn lower_nodes(
         ≡ compileTree (lent (length (now (nums .entry))) (length (now (biases .entry))) (length (now (wires .entry))) (length (now (coefs .entry))) (length (now (worknums .entry))) (length (now (workbiases .entry))) (length (now (workwires .entry))) (length (now (workcoefs .entry)))) (accepted (now (kinds .entry)) (now (counts .entry))) ⌝ }
 {
     let nodes = kinds.len();
-    let listed = settle::write_lists(nums, kinds, counts);
+    let listed = lower_emit::write_lists(nums, kinds, counts);
     let leaves = listed.leaves;
     let cursors = listed.cursors;
-    let built = build::build(
+    let built = lower_build::build(
         workwires,
         workcoefs,
         worknums,
@@ -49,7 +49,7 @@ fn lower_nodes(
         leaves,
     );
     let ops = built.ops;
-    settle::settle(
+    lower_emit::settle(
         nums,
         biases,
         wires,
@@ -133,8 +133,8 @@ pub fn compile(
     ensures { λ _. ⌜ (now («work_nums» .exit) ≡ zeros (now («work_nums» .entry))) × (now («work_biases» .exit) ≡ zeros32 (now («work_biases» .entry)))
         × (now («work_wires» .exit) ≡ zeros (now («work_wires» .entry))) × (now («work_coefs» .exit) ≡ zeros32 (now («work_coefs» .entry))) ⌝ }
 {
-    settle::wipe(nums, biases, wires, coefs);
-    if !settle::roomy(
+    lower_emit::wipe(nums, biases, wires, coefs);
+    if !lower_emit::roomy(
         nums.len(),
         biases.len(),
         wires.len(),
@@ -144,7 +144,7 @@ pub fn compile(
         work_wires.len(),
         work_coefs.len(),
     ) {
-        settle::wipe_work(work_nums, work_biases, work_wires, work_coefs);
+        lower_emit::wipe_work(work_nums, work_biases, work_wires, work_coefs);
         return Compiled::Refused(Refusal {
             cause: Cause::ShortRoom,
             place: 0,
@@ -161,6 +161,6 @@ pub fn compile(
         work_wires,
         work_coefs,
     );
-    settle::wipe_work(work_nums, work_biases, work_wires, work_coefs);
+    lower_emit::wipe_work(work_nums, work_biases, work_wires, work_coefs);
     answer
 }

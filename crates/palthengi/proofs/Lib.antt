@@ -1,3 +1,2 @@
-pub mod Told
-pub mod Unique
 pub mod Made
+pub mod Unique

@@ -3,9 +3,9 @@ use mathlib.Core.Path.{_≡_, ap, _∙_}
 use mathlib.Core.List.{List}
 use Prim.Native.Nat.{ℕ}
 use lib.Ieee.{Float}
-use Rattle.compiled.specs.declared.Compiled.{Compiled}
-use Rattle.compiled.specs.Compile.{Outcome}
-use Rattle.settle.specs.Settle.{outcome}
+use Rattle.compile.specs.declared.Compiled.{Compiled}
+use Rattle.compile.specs.Compile.{Outcome}
+use Rattle.lower_emit.specs.Settle.{outcome}
 use Rattle.palthengi.specs.declared.Compilation.{Compilation}
 use Rattle.palthengi.specs.Compilation.{ofCompiled, made, tellMade}
 

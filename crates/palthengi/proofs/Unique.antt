@@ -3,14 +3,14 @@ use mathlib.Core.Path.{_≡_, sym, ap, _∙_}
 use mathlib.Core.List.{List}
 use Prim.Native.Nat.{ℕ}
 use lib.Ieee.{Float}
-use Rattle.circuit.specs.Check.{Stored, circuitOk}
+use Rattle.tick_check.specs.Check.{Stored, circuitOk}
 use Rattle.validate.specs.Validate.{validateOf}
-use Rattle.lane.specs.Lane.{Lent}
+use Rattle.tick_lane.specs.Lane.{Lent}
 use Rattle.tick.specs.Tick.{tickOf}
-use Rattle.compiled.specs.Compile as compile
-use Rattle.palthengi.specs.declared.Refusal.{Refusal}
+use Rattle.compile.specs.Compile as compile
+use Rattle.tick_refusal.specs.declared.Refusal.{Refusal}
 use Rattle.palthengi.specs.Compilation.{Made, tellMade}
-use Rattle.palthengi.specs.Refusal.{checkNumber, ofValidated, Told, told, tell}
+use Rattle.tick_refusal.specs.Refusal.{checkNumber, ofValidated, Told, told, tell}
 
 -- palthengi_check
 pub one-number : (s : Stored) (r r′ : ℕ) → r ≡ checkNumber (circuitOk s) → r′ ≡ checkNumber (circuitOk s) → r ≡ r′

@@ -2,10 +2,10 @@
 use Prim.Native.Nat.{ℕ}
 use mathlib.Core.List.{List}
 use lib.Ieee.{Float}
-use Rattle.record.specs.Refusal.{numberOf, kindOf}
+use Rattle.tree_record.specs.Refusal.{numberOf, kindOf}
 use Rattle.wire.specs.declared.Counts.{Counts}
-use Rattle.compiled.specs.declared.Compiled.{Compiled}
-use Rattle.compiled.specs.Compile.{Outcome}
+use Rattle.compile.specs.declared.Compiled.{Compiled}
+use Rattle.compile.specs.Compile.{Outcome}
 use Rattle.palthengi.specs.declared.Compilation.{Compilation}
 
 abbrev pub noCounts : Counts

@@ -1,2 +1,1 @@
-pub mod Refusal
 pub mod Compilation

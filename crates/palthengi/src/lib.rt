@@ -1,113 +1,20 @@
 // Compile, the check for 17, validation and the tick for callers in C: numbers and slices in, a number or a struct out. include/palthengi.h declares them.
-use compiled::Compiled;
-use index::CursorCell;
-use index::NodeIndex;
-use lane::Ticked;
-use verdict::Validated;
+use compile::Compiled;
+use tick_refusal::Refusal;
+use tick_refusal::of_ticked;
+use tick_refusal::of_validated;
 use wire::Counts;
 ghost use mathlib.Core.Path.{_≡_};
 ghost use lib.ListN.{length};
-ghost use Rattle.exact.specs.Whole.{zero32};
-ghost use Rattle.circuit.specs.Check.{stored, circuitOk};
+ghost use Rattle.tick_check.specs.Check.{stored, circuitOk};
 ghost use Rattle.validate.specs.Validate.{validateOf};
-ghost use Rattle.lane.specs.Lane.{lent};
+ghost use Rattle.tick_lane.specs.Lane.{lent};
 ghost use Rattle.tick.specs.Tick.{tickOf};
-ghost use Rattle.palthengi.specs.Refusal.{checkNumber, ofValidated, ofTicked, told, tell};
-ghost use Rattle.compiled.specs.declared.Compiled as answers;
-ghost use Rattle.compiled.specs.Compile as compile;
-ghost use Rattle.settle.specs.Settle.{zeros, zeros32};
+ghost use Rattle.tick_refusal.specs.Refusal.{checkNumber, ofValidated, told, tell};
+ghost use Rattle.compile.specs.declared.Compiled as answers;
+ghost use Rattle.compile.specs.Compile as compile;
+ghost use Rattle.lower_emit.specs.Settle.{zeros, zeros32};
 ghost use Rattle.palthengi.specs.Compilation.{ofCompiled, made, tellMade};
-
-// Document 01's number, 0 where nothing is refused; of a broken invariant the case, 1 not a bit, 2 not one hot, 3 bad cursor; the place; the offending float.
-#[repr(C)]
-pub struct Refusal {
-    pub number: u32,
-    pub broken: u32,
-    pub place: usize,
-    pub value: f32,
-}
-
-fn of_validated(v: Validated) -> Refusal
-    ensures { λ r. ⌜ r ≡ ofValidated v ⌝ }
-{
-    match v {
-        Validated::Sound => Refusal {
-            number: 0,
-            broken: 0,
-            place: 0,
-            value: 0.0,
-        },
-        Validated::BadCircuit => Refusal {
-            number: 17,
-            broken: 0,
-            place: 0,
-            value: 0.0,
-        },
-        Validated::ShortRoom => Refusal {
-            number: 14,
-            broken: 0,
-            place: 0,
-            value: 0.0,
-        },
-        Validated::NotABit(node, x) => Refusal {
-            number: 18,
-            broken: 1,
-            place: node.0,
-            value: x,
-        },
-        Validated::NotOneHot(node, x) => Refusal {
-            number: 18,
-            broken: 2,
-            place: node.0,
-            value: x,
-        },
-        Validated::BadCursor(cell, x) => Refusal {
-            number: 18,
-            broken: 3,
-            place: cell.0,
-            value: x,
-        },
-    }
-}
-
-fn plain(number: u32, place: usize) -> Refusal
-    ensures { λ r. ⌜ r ≡ record { number = number; broken = 0; place = place; value = zero32 } ⌝ }
-{
-    Refusal {
-        number,
-        broken: 0,
-        place,
-        value: 0.0,
-    }
-}
-
-fn broken(v: Validated) -> Refusal
-    ensures { λ r. ⌜ r ≡ ofTicked (Ticked.BadInvariant v) ⌝ }
-{
-    let r = of_validated(v);
-    Refusal {
-        number: 18,
-        broken: r.broken,
-        place: r.place,
-        value: r.value,
-    }
-}
-
-fn of_ticked(t: Ticked) -> Refusal
-    ensures { λ r. ⌜ r ≡ ofTicked t ⌝ }
-{
-    match t {
-        Ticked::Accepted => plain(0, 0),
-        Ticked::BadCircuit => plain(17, 0),
-        Ticked::LeafCount(given) => plain(11, given),
-        Ticked::StateShape(given) => plain(12, given),
-        Ticked::CursorCount(given) => plain(13, given),
-        Ticked::ShortRoom => plain(14, 0),
-        Ticked::BadStatus(slot) => plain(15, slot),
-        Ticked::BadFlag(node) => plain(16, node.0),
-        Ticked::BadInvariant(v) => broken(v),
-    }
-}
 
 #[no_mangle]
 pub extern "C" fn palthengi_check(
@@ -119,7 +26,7 @@ pub extern "C" fn palthengi_check(
 ) -> u32
     ensures { λ r. ⌜ r ≡ checkNumber (circuitOk (stored counts (now (nums .entry)) (now (biases .entry)) (now (wires .entry)) (now (coefs .entry)))) ⌝ }
 {
-    let good = circuit::is_circuit(counts, nums, biases, wires, coefs);
+    let good = tick_check::is_circuit(counts, nums, biases, wires, coefs);
     if good { 0 } else { 17 }
 }
 
@@ -197,7 +104,7 @@ fn of_compiled(answer: Compiled) -> Compilation
     }
 }
 
-fn refused(refusal: record::Refusal) -> Compilation
+fn refused(refusal: tree_record::Refusal) -> Compilation
     ensures { λ r. ⌜ r ≡ ofCompiled (answers.Compiled.Refused refusal) ⌝ }
 {
     let cause = refusal.cause;

@@ -1,6 +1,9 @@
 // The lists of a tree's plan, a port of plan.rs: which node each leaf slot and each cursor cell belongs to, and the order of reports.
+mod cells;
 mod lists;
 
+pub use cells::Plan;
+pub use cells::Status;
 pub use lists::cursor_list;
 pub use lists::leaf_list;
 pub use lists::report_order;

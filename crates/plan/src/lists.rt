@@ -1,7 +1,7 @@
 // The lists of a plan. Each is written from the front of a lent slice, as far as there is room, and the answer is the list's length. Past
 // the node limit nothing is read.
 use index::NodeIndex;
-use kinds::Kind;
+use tree_kinds::Kind;
 ghost use mathlib.Core.Path.{_≡_};
 ghost use Prim.Native.Nat.{min};
 ghost use lib.ListN.{length, set};

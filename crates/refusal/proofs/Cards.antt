@@ -3,9 +3,9 @@
 use mathlib.Core.Path.{_≡_, refl}
 use mathlib.Core.List.{List, [], _∷_}
 use Prim.Native.String.{String}
-use Rattle.kinds.specs.Kinds.{ascii, rows, rowOf}
-use Rattle.record.specs.declared.refusal.Cause.the-variants.{Truncated, Unsupported, TooManyNodes, ShortRoom}
-use Rattle.record.specs.declared.refusal.Refusal.{Refusal}
+use Rattle.tree_kinds.specs.Kinds.{ascii, rows, rowOf}
+use Rattle.tree_record.specs.declared.refusal.Cause.the-variants.{Truncated, Unsupported, TooManyNodes, ShortRoom}
+use Rattle.tree_record.specs.declared.refusal.Refusal.{Refusal}
 use Rattle.text.specs.Text.{decimalIn, decimal}
 use Rattle.refusal.specs.Line.{heading, lineOf}
 

@@ -6,9 +6,9 @@ use Prim.Native.Nat.{_≤_}
 use borrow.Author.Tests.{leb-true}
 use lib.Dec.{leb}
 use lib.ListN.{length, take}
-use Rattle.kinds.specs.Kinds.{ascii}
-use Rattle.record.specs.declared.refusal.Cause.{Cause}
-use Rattle.record.specs.declared.refusal.Cause.the-variants.{Truncated, BadLength, BadKind, Unsupported, EmptyComposite, TooDeep, TooManyNodes, Trailing, NoOpRoom, NoTermRoom, ShortRoom}
+use Rattle.tree_kinds.specs.Kinds.{ascii}
+use Rattle.tree_record.specs.declared.refusal.Cause.{Cause}
+use Rattle.tree_record.specs.declared.refusal.Cause.the-variants.{Truncated, BadLength, BadKind, Unsupported, EmptyComposite, TooDeep, TooManyNodes, Trailing, NoOpRoom, NoTermRoom, ShortRoom}
 use Rattle.refusal.specs.Line.{sentence, wordsOf}
 
 abbrev Fits : Cause → Type 0

@@ -3,12 +3,12 @@ use Prim.Native.Nat.{ℕ, suc, _-_}
 use Prim.Native.String.{String}
 use mathlib.Core.List.{List, _++_}
 use lib.ListN.{length, take, replicate}
-use Rattle.kinds.specs.Kinds.{ascii, rowOf}
+use Rattle.tree_kinds.specs.Kinds.{ascii, rowOf}
 use Rattle.text.specs.Text.{decimal}
-use Rattle.record.specs.declared.refusal.Cause.{Cause}
-use Rattle.record.specs.declared.refusal.Cause.the-variants.{Truncated, BadLength, BadKind, Unsupported, EmptyComposite, TooDeep, TooManyNodes, Trailing, NoOpRoom, NoTermRoom, ShortRoom}
-use Rattle.record.specs.declared.refusal.Refusal.{Refusal}
-use Rattle.record.specs.Refusal.{numberOf, kindOf}
+use Rattle.tree_record.specs.declared.refusal.Cause.{Cause}
+use Rattle.tree_record.specs.declared.refusal.Cause.the-variants.{Truncated, BadLength, BadKind, Unsupported, EmptyComposite, TooDeep, TooManyNodes, Trailing, NoOpRoom, NoTermRoom, ShortRoom}
+use Rattle.tree_record.specs.declared.refusal.Refusal.{Refusal}
+use Rattle.tree_record.specs.Refusal.{numberOf, kindOf}
 use Rattle.refusal.specs.declared.Words.{Words}
 
 -- the words for each cause

@@ -1,10 +1,10 @@
 // Refusals as text: a line such as `refused 4 at 0: Sleep is never lowered`, written into a lent buffer.
-use kinds::row_of;
-use record::Cause;
-use record::Refusal;
 use text::append;
 use text::append_decimal;
 use text::put_line;
+use tree_kinds::row_of;
+use tree_record::Cause;
+use tree_record::Refusal;
 ghost use mathlib.Core.Path.{_≡_};
 ghost use Prim.Native.Nat.{_+_, _≤_};
 ghost use mathlib.Core.List.{_++_};

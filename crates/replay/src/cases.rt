@@ -10,9 +10,9 @@ use crate::lines::values_are;
 use crate::lists::lists_at;
 use crate::room;
 use crate::ticks::ticks_at;
-use compiled::Compiled;
-use record::Refusal;
+use compile::Compiled;
 use tree::Flattened;
+use tree_record::Refusal;
 use wire::Counts;
 
 // The case that begins at a position.

@@ -7,7 +7,7 @@ use crate::lines::next_line;
 use crate::lines::number_at;
 use crate::lines::short;
 use crate::lines::values_are;
-use cells::Plan;
+use plan::Plan;
 use tree::Flattened;
 use wire::Counts;
 use wire::Nums;

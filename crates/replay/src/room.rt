@@ -1,6 +1,6 @@
 // The room that the text lies in, and that a case is compiled and ticked in, of docs/STORAGE.md's lengths.
-use compiled::Compiled;
-use compiled::Room;
+use compile::Compiled;
+use compile::Room;
 ghost use mathlib.Core.Path.{_≡_};
 ghost use lib.ListN.{length};
 

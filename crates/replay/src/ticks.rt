@@ -5,7 +5,7 @@ use crate::lines::next_line;
 use crate::lines::read_values;
 use crate::lines::values_are;
 use crate::room;
-use lane::Ticked;
+use tick_lane::Ticked;
 use wire::Counts;
 ghost use mathlib.Core.Path.{_≡_};
 ghost use lib.ListN.{length};

@@ -7,9 +7,9 @@ use mathlib.Core.Bool.{Bool, true, false}
 use Rattle.wire.specs.declared.Form.{Form}
 use Rattle.builder.specs.declared.Bit.{Bit}
 use Rattle.builder.specs.Bits.{bitForm}
-use Rattle.table.specs.declared.Builder.{Builder}
-use Rattle.table.specs.Work.{Mem, Ended}
-use Rattle.table.specs.Steps.{plusIn}
+use Rattle.builder_table.specs.declared.Builder.{Builder}
+use Rattle.builder_table.specs.Work.{Mem, Ended}
+use Rattle.builder_table.specs.Steps.{plusIn}
 use Rattle.status.specs.declared.Status.{Status}
 use Rattle.status.specs.declared.StatusBits.{StatusBits}
 

@@ -1,13 +1,13 @@
 // status.rs: the three-valued status, as bits. All three 0 is a node that was not ticked.
 use builder::Bit;
 use builder::Decided;
-use table::Builder;
+use builder_table::Builder;
 ghost use mathlib.Core.Path.{_≡_};
 ghost use mathlib.Core.List.{List};
 ghost use mathlib.Core.Bool.{true, false};
 ghost use Prim.Native.Nat.{ℕ};
 ghost use lib.Ieee.{Float};
-ghost use Rattle.table.specs.Work.{mem, ended};
+ghost use Rattle.builder_table.specs.Work.{mem, ended};
 ghost use Rattle.status.specs.Bits.{untickedBits, withBit, invertedBits, finishedIn, forcedBits};
 ghost use Rattle.builder.specs.Bits.{bitForm};
 

@@ -4,12 +4,12 @@ use mathlib.Core.Bool.{_&&_}
 use Prim.Native.Nat.{ℕ, _+_, _≤_}
 use borrow.Author.Tests.{eqb-true, leb-true}
 use lib.Dec.{eqb, leb}
-use Rattle.wire.proofs.Tests.{both-left, both-right}
-use Rattle.circuit.specs.Check.{Stored, circuitOk}
-use Rattle.circuit.proofs.Checked.{Checked, checked}
-use Rattle.lane.specs.declared.Ticked.the-variants as is
-use Rattle.lane.specs.Lane.{unless}
-use Rattle.lane.proofs.Laws.{unless-say}
+use Rattle.lists.proofs.Tests.{both-left, both-right}
+use Rattle.tick_check.specs.Check.{Stored, circuitOk}
+use Rattle.tick_check.proofs.Checked.{Checked, checked}
+use Rattle.tick_lane.specs.declared.Ticked.the-variants as is
+use Rattle.tick_lane.specs.Lane.{unless}
+use Rattle.tick_lane.proofs.LaneLaws.{unless-say}
 use Rattle.tick.specs.Tick.{roomFor, shapesOf}
 
 pub record Passed (s : Stored) (row flags cursors values statuses halts edges : ℕ) : Type 0 where

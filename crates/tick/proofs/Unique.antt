@@ -5,9 +5,9 @@ use mathlib.Core.List.{List}
 use mathlib.Core.Bool.{Bool}
 use Prim.Native.Nat.{ℕ}
 use lib.Ieee.{Float}
-use Rattle.circuit.specs.Check.{Stored, circuitOk}
-use Rattle.lane.specs.declared.Ticked.{Ticked}
-use Rattle.lane.specs.Lane.{Lent, Outcome, lent, outcome}
+use Rattle.tick_check.specs.Check.{Stored, circuitOk}
+use Rattle.tick_lane.specs.declared.Ticked.{Ticked}
+use Rattle.tick_lane.specs.Lane.{Lent, Outcome, lent, outcome}
 use Rattle.tick.specs.Tick.{tickOf}
 
 -- circuit::is_circuit

@@ -5,10 +5,10 @@ use mathlib.Core.Bool.{Bool, _&&_}
 use lib.ListN.{length}
 use lib.Dec.{eqb, leb}
 use Rattle.wire.specs.declared.Counts.{Counts}
-use Rattle.circuit.specs.Check.{Stored, circuitOk}
-use Rattle.lane.specs.declared.Ticked.{Ticked}
-use Rattle.lane.specs.declared.Ticked.the-variants as is
-use Rattle.lane.specs.Lane.{unless, Lent, Outcome, after, laneOf}
+use Rattle.tick_check.specs.Check.{Stored, circuitOk}
+use Rattle.tick_lane.specs.declared.Ticked.{Ticked}
+use Rattle.tick_lane.specs.declared.Ticked.the-variants as is
+use Rattle.tick_lane.specs.Lane.{unless, Lent, Outcome, after, laneOf}
 
 -- not "value table shorter than cells and ops together, or status, halt or edge output shorter than needed (N, N, L)"
 abbrev pub roomFor : Counts → ℕ → ℕ → ℕ → ℕ → Bool

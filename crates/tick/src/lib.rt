@@ -1,10 +1,10 @@
 // One tick of a lent circuit, which may hold anything, from any state and on any row.
-use lane::Ticked;
+use tick_lane::Ticked;
 use wire::Counts;
 ghost use mathlib.Core.Path.{_≡_};
 ghost use lib.ListN.{length};
-ghost use Rattle.circuit.specs.Check.{stored};
-ghost use Rattle.lane.specs.Lane.{lent, outcome};
+ghost use Rattle.tick_check.specs.Check.{stored};
+ghost use Rattle.tick_lane.specs.Lane.{lent, outcome};
 ghost use Rattle.tick.specs.Tick.{shapesOf, tickOf};
 
 // 17, then 11 to 14, of the lengths of what is lent.
@@ -24,7 +24,7 @@ fn gate(
 ) -> Ticked
     ensures { λ r. ⌜ r ≡ shapesOf (stored counts (now (nums .entry)) (now (biases .entry)) (now (wires .entry)) (now (coefs .entry))) row flags cursors values statuses halts edges ⌝ }
 {
-    let good = circuit::is_circuit(counts, nums, biases, wires, coefs);
+    let good = tick_check::is_circuit(counts, nums, biases, wires, coefs);
     if !good {
         return Ticked::BadCircuit;
     }
@@ -85,7 +85,7 @@ pub fn tick(
     let Ticked::Accepted = g else {
         return g;
     };
-    lane::lane(
+    tick_lane::lane(
         counts,
         nums,
         biases,

@@ -1,7 +1,7 @@
 // Reading from standard input.
 use libc::STDIN_FILENO;
-use listing::Outer;
-use listing::outer_at;
+use list_text::Outer;
+use list_text::outer_at;
 ghost use Prim.Native.Nat.{_+_, _≤_};
 ghost use lib.ListN.{length};
 

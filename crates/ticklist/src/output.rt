@@ -1,6 +1,6 @@
 // Writing to standard output.
 use libc::STDOUT_FILENO;
-use listends::finish;
+use list_ends::finish;
 
 // Writes the first so many bytes, and answers whether they were taken. A text longer than its buffer was not put there.
 pub(crate) fn show(out: &[u8], wrote: usize) -> bool {

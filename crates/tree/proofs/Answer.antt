@@ -8,8 +8,8 @@ use borrow.Author.Tests.{le-ltb, lt-ltb}
 use lib.ListN.{length, replicate, length-replicate}
 use Rattle.tree.specs.declared.flat.Flattened.{Flattened}
 use Rattle.tree.specs.declared.flat.Flattened.the-variants.{Accepted, Refused}
-use Rattle.record.specs.declared.refusal.Cause.the-variants.{ShortRoom}
-use Rattle.record.specs.declared.refusal.Refusal.{Refusal}
+use Rattle.tree_record.specs.declared.refusal.Cause.the-variants.{ShortRoom}
+use Rattle.tree_record.specs.declared.refusal.Refusal.{Refusal}
 use Rattle.tree.specs.Tree.{Parsed, accepted, refused, refusedAt, treeOf, flatOf, answerOf, kindsIn, countsIn, padded, Written}
 
 -- the contract of `flatten`, by the parse t

@@ -13,13 +13,13 @@ use lib.Seq.{take-suc-set, drop-set-lt, length-take-le, drop-drop}
 use types.Run.{OneOf, miss}
 use denote.Enum.Declared.{tagOf}
 use Rattle.tree.proofs.Stack.{stackOf, stack-length, stack-top, stack-push}
-use Rattle.record.proofs.record.Record.{the-type}
+use Rattle.tree_record.proofs.record.Record.{the-type}
 use Rattle.tree.specs.declared.flat.Flattened.{Flattened}
-use Rattle.record.specs.declared.record.Record.{Record}
-use Rattle.record.specs.declared.record.Record.the-variants.{Node}
-use Rattle.record.specs.declared.refusal.Cause.{Cause}
-use Rattle.record.specs.declared.refusal.Cause.the-variants.{TooDeep, TooManyNodes, Trailing}
-use Rattle.record.specs.Record.{recordAt}
+use Rattle.tree_record.specs.declared.record.Record.{Record}
+use Rattle.tree_record.specs.declared.record.Record.the-variants.{Node}
+use Rattle.tree_record.specs.declared.refusal.Cause.{Cause}
+use Rattle.tree_record.specs.declared.refusal.Cause.the-variants.{TooDeep, TooManyNodes, Trailing}
+use Rattle.tree_record.specs.Record.{recordAt}
 use Rattle.tree.specs.Tree.{Parsed, accepted, refusedAt, limited, settle, ending, parse, treeOf, answerOf, passedOn, padded, Written}
 
 -- an entry that is not 0 stays

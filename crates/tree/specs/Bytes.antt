@@ -3,9 +3,9 @@
 use mathlib.Core.Path.{_≡_}
 use Prim.Native.Nat.{ℕ, _/_, _%_, _≤_, _<_}
 use mathlib.Core.List.{List, [], _∷_, _++_}
-use Rattle.kinds.specs.declared.Family.{Family}
-use Rattle.kinds.specs.declared.Family.the-variants.{Leaf, Composite, Decorator, Never, Unknown}
-use Rattle.kinds.specs.Kinds.{rowOf}
+use Rattle.tree_kinds.specs.declared.Family.{Family}
+use Rattle.tree_kinds.specs.declared.Family.the-variants.{Leaf, Composite, Decorator, Never, Unknown}
+use Rattle.tree_kinds.specs.Kinds.{rowOf}
 use Rattle.tree.specs.Forest.{Forest, none, node, width, size, levels}
 
 -- every number of a list is a byte

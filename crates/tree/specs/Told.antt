@@ -2,7 +2,7 @@
 use Prim.Native.Nat.{ℕ}
 use Rattle.tree.specs.declared.flat.Flattened.{Flattened}
 use Rattle.tree.specs.declared.flat.Flattened.the-variants.{Accepted, Refused}
-use Rattle.record.specs.Refusal.{numberOf, kindOf}
+use Rattle.tree_record.specs.Refusal.{numberOf, kindOf}
 
 -- how many nodes there are, or a number, its place and its kind
 pub data Told : Type 0 where

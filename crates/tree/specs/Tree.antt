@@ -6,12 +6,12 @@ use mathlib.Core.List.{List, [], _∷_, _++_}
 use lib.ListN.{length, replicate}
 use lib.Dec.{leb, ltb}
 use Rattle.tree.specs.declared.flat.Flattened.{Flattened}
-use Rattle.record.specs.declared.record.Record.{Record}
-use Rattle.record.specs.declared.record.Record.the-variants.{Node}
-use Rattle.record.specs.declared.refusal.Cause.{Cause}
-use Rattle.record.specs.declared.refusal.Cause.the-variants.{TooDeep, TooManyNodes, Trailing, ShortRoom}
-use Rattle.record.specs.declared.refusal.Refusal.{Refusal}
-use Rattle.record.specs.Record.{recordAt}
+use Rattle.tree_record.specs.declared.record.Record.{Record}
+use Rattle.tree_record.specs.declared.record.Record.the-variants.{Node}
+use Rattle.tree_record.specs.declared.refusal.Cause.{Cause}
+use Rattle.tree_record.specs.declared.refusal.Cause.the-variants.{TooDeep, TooManyNodes, Trailing, ShortRoom}
+use Rattle.tree_record.specs.declared.refusal.Refusal.{Refusal}
+use Rattle.tree_record.specs.Record.{recordAt}
 
 -- the nodes' kinds and child counts, in pre-order; or a refusal
 pub data Parsed : Type 0 where

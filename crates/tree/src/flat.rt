@@ -1,9 +1,9 @@
 // The flattening: a tree's records, read in pre-order, as the kinds and child counts of its nodes.
 use index::NodeIndex;
-use record::Cause;
-use record::Record;
-use record::Refusal;
-use record::read_record;
+use tree_record::Cause;
+use tree_record::Record;
+use tree_record::Refusal;
+use tree_record::read_record;
 ghost use mathlib.Core.Path.{_≡_};
 ghost use Prim.Native.Nat.{_≤_};
 ghost use lib.ListN.{length, replicate};

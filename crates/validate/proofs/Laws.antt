@@ -7,13 +7,13 @@ use borrow.Author.Tests.{lt-ltb, le-ltb}
 use lib.ListN.{length, take}
 use lib.Ieee.{Float}
 use Rattle.wire.specs.Storage.{outputCount}
-use Rattle.fill.specs.Fill.{fillAt}
-use Rattle.verdict.specs.declared.Validated.{Validated}
-use Rattle.verdict.specs.declared.Validated.the-variants.{BadCircuit, ShortRoom}
-use Rattle.verdict.specs.Verdict.{valuesVerdict}
-use Rattle.circuit.specs.Check.{Stored, circuitOk}
-use Rattle.evaluate.specs.Evaluate.{outValue}
-use Rattle.evaluate.proofs.Cells.{outs-part}
+use Rattle.lists.specs.Fill.{fillAt}
+use Rattle.tick_verdict.specs.declared.Validated.{Validated}
+use Rattle.tick_verdict.specs.declared.Validated.the-variants.{BadCircuit, ShortRoom}
+use Rattle.tick_verdict.specs.Verdict.{valuesVerdict}
+use Rattle.tick_check.specs.Check.{Stored, circuitOk}
+use Rattle.tick_lane.specs.Evaluate.{outValue}
+use Rattle.tick_lane.proofs.Cells.{outs-part}
 use Rattle.validate.specs.Validate.{validateOf}
 
 module _ (s : Stored) (table : List Float) where

@@ -2,8 +2,8 @@
 use mathlib.Core.Path.{_≡_, sym, _∙_}
 use mathlib.Core.List.{List}
 use lib.Ieee.{Float}
-use Rattle.verdict.specs.declared.Validated.{Validated}
-use Rattle.circuit.specs.Check.{Stored}
+use Rattle.tick_verdict.specs.declared.Validated.{Validated}
+use Rattle.tick_check.specs.Check.{Stored}
 use Rattle.validate.specs.Validate.{validateOf}
 
 -- validate::validate

@@ -5,11 +5,11 @@ use mathlib.Core.Bool.{cond}
 use lib.ListN.{length}
 use lib.Dec.{ltb}
 use lib.Ieee.{Float}
-use Rattle.verdict.specs.declared.Validated.{Validated}
-use Rattle.verdict.specs.declared.Validated.the-variants.{BadCircuit, ShortRoom}
-use Rattle.verdict.specs.Verdict.{valuesVerdict}
-use Rattle.circuit.specs.Check.{Stored, circuitOk}
-use Rattle.evaluate.specs.Evaluate.{outsOf}
+use Rattle.tick_verdict.specs.declared.Validated.{Validated}
+use Rattle.tick_verdict.specs.declared.Validated.the-variants.{BadCircuit, ShortRoom}
+use Rattle.tick_verdict.specs.Verdict.{valuesVerdict}
+use Rattle.tick_check.specs.Check.{Stored, circuitOk}
+use Rattle.tick_lane.specs.Evaluate.{outsOf}
 
 -- "Bad circuit gives 17, a table shorter than the circuit gives 14"; then node by node
 unfoldable pub validateOf : Stored → List Float → Validated

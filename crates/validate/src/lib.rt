@@ -1,11 +1,11 @@
 // Validation of a lent value table against a lent circuit: `validate` of lower.rs, on anything.
-use verdict::Validated;
+use tick_verdict::Validated;
 use wire::Counts;
 ghost use mathlib.Core.Path.{_≡_};
 ghost use Prim.Native.Nat.{_+_, _*_, _≤_};
 ghost use lib.ListN.{length, take};
-ghost use Rattle.circuit.specs.Check.{stored};
-ghost use Rattle.verdict.specs.Verdict.{valuesVerdict};
+ghost use Rattle.tick_check.specs.Check.{stored};
+ghost use Rattle.tick_verdict.specs.Verdict.{valuesVerdict};
 ghost use Rattle.validate.specs.Validate.{validateOf};
 
 // The verdict on the first n of some values.
@@ -14,7 +14,7 @@ fn judge(room: &[f32], n: usize, nodes: usize, cursors: usize) -> Validated
     ensures { λ r. ⌜ r ≡ valuesVerdict (take n (now (room .entry))) nodes cursors ⌝ }
 {
     let outs = &room[0..n];
-    verdict::values_verdict(outs, nodes, cursors)
+    tick_verdict::values_verdict(outs, nodes, cursors)
 }
 
 // Whether the values of the output forms against this table are what they must be: which case is broken, where, and by which float.
@@ -28,7 +28,7 @@ pub fn validate(
 ) -> Validated
     ensures { λ r. ⌜ r ≡ validateOf (stored counts (now (nums .entry)) (now (biases .entry)) (now (wires .entry)) (now (coefs .entry))) (now (table .entry)) ⌝ }
 {
-    let good = circuit::is_circuit(counts, nums, biases, wires, coefs);
+    let good = tick_check::is_circuit(counts, nums, biases, wires, coefs);
     if !good {
         return Validated::BadCircuit;
     }
@@ -40,6 +40,6 @@ pub fn validate(
         return Validated::ShortRoom;
     }
     let mut room = [0.0f32; 896];
-    evaluate::read_outs(&mut room, counts, nums, biases, wires, coefs, table);
+    tick_lane::read_outs(&mut room, counts, nums, biases, wires, coefs, table);
     judge(&room, 6 * nodes + cursors, nodes, cursors)
 }

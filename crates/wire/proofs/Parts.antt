@@ -10,9 +10,9 @@ use lib.Seq.{drop-cons}
 use lib.Ieee.{Float, nan}
 use Rattle.wire.specs.declared.Form.{Form}
 use Rattle.wire.specs.declared.Term.{Term}
-use Rattle.wire.specs.Each.{each}
+use Rattle.lists.specs.Each.{each}
 use Rattle.wire.specs.Terms.{termAt, part, termsOf, meaning, lookUp}
-use Rattle.wire.proofs.Entries.{each-none, each-cons}
+use Rattle.lists.proofs.Entries.{each-none, each-cons}
 
 module _ (ws : List ℕ) (cs : List Float) where
   part-none : (i : ℕ) → part ws cs i 0 ≡ []

@@ -12,8 +12,8 @@ use lib.Seq.{ext-getD}
 use Rattle.wire.specs.declared.Counts.{Counts}
 use Rattle.wire.specs.Terms.{Affine}
 use Rattle.wire.specs.Storage.{opsFrom, opBiasesFrom, opSlots, termSlots, storageHolds, Op, opAt, outputAt, outputCount, numbersFrom, circuitOf, leavesFrom, cursorsFrom, reportFrom, Circuit, neither}
-use Rattle.wire.proofs.Tests.{both-left, both-right}
-use Rattle.wire.proofs.Entries.{each-length, each-getD, each-is}
+use Rattle.lists.proofs.Tests.{both-left, both-right}
+use Rattle.lists.proofs.Entries.{each-length, each-getD, each-is}
 
 -- ---- slots
 

@@ -1,4 +1,2 @@
-pub mod All
-pub mod Each
-pub mod Terms
 pub mod Storage
+pub mod Terms

@@ -7,7 +7,7 @@ use lib.Dec.{leb, eqb}
 use lib.Ieee.{Float, nan}
 use Rattle.wire.specs.declared.Form.{Form}
 use Rattle.wire.specs.declared.Counts.{Counts}
-use Rattle.wire.specs.Each.{each}
+use Rattle.lists.specs.Each.{each}
 use Rattle.wire.specs.Terms.{Affine, meaning}
 
 -- ---- The layout, the same numbers as those of Nums and Biases. In nums: the leaf list, the cursor list, the report list, the ranges of the output forms, the ops.

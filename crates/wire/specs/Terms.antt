@@ -7,7 +7,7 @@ use lib.Dec.{leb}
 use lib.Ieee.{Float, nan, binary32, add, mul}
 use Rattle.wire.specs.declared.Form.{Form}
 use Rattle.wire.specs.declared.Term.{Term}
-use Rattle.wire.specs.Each.{each}
+use Rattle.lists.specs.Each.{each}
 
 -- the term at an index of the pools
 abbrev pub termAt : List ℕ → List Float → ℕ → Term

@@ -5,7 +5,7 @@ use native.Mathlib.Omega.{arith}
 use borrow.Author.Tests.{not-true, not-false}
 use lib.ListN.{length}
 use Rattle.wire.specs.Storage.{termSlots}
-use Rattle.fits.specs.Fits.{singleFits}
+use Rattle.arena_room.specs.Fits.{singleFits}
 use Rattle.arena.proofs.Outcome.{single-fits, single-full, single-made}
 use borrow.Author.Needs.{needs}
 use Rattle.arena.proofs.single.Statement.{statement}

@@ -1,5 +1,5 @@
 -- `builder::and` meets its contract. Assumes nothing.
-use Rattle.table.specs.Work.{mem}
+use Rattle.builder_table.specs.Work.{mem}
 use Rattle.builder.proofs.Made.{and-left, and-right, and-false, and-made, either-test}
 use mathlib.Core.Path.{sym, _∙_}
 use borrow.Author.Needs.{needs}

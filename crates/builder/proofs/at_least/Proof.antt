@@ -1,5 +1,5 @@
 -- `builder::at_least` meets its contract. Assumes nothing.
-use Rattle.table.specs.Work.{mem}
+use Rattle.builder_table.specs.Work.{mem}
 use Rattle.builder.proofs.Made.{least-constant, least-made}
 use native.Mathlib.Omega.{arith}
 use borrow.Author.Needs.{needs}

@@ -1,5 +1,5 @@
 -- `builder::is_zero` meets its contract. Assumes nothing.
-use Rattle.table.specs.Work.{mem}
+use Rattle.builder_table.specs.Work.{mem}
 use Rattle.builder.proofs.Made.{zero-constant, zero-made}
 use native.Mathlib.Omega.{arith}
 use borrow.Author.Needs.{needs}

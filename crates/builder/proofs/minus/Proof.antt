@@ -1,5 +1,5 @@
 -- `builder::minus` meets its contract. Assumes nothing.
-use Rattle.table.specs.Work.{mem}
+use Rattle.builder_table.specs.Work.{mem}
 use Rattle.builder.proofs.Made.{minus-made}
 use borrow.Author.Needs.{needs}
 use Rattle.builder.proofs.minus.Statement.{statement}

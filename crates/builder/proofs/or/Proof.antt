@@ -1,5 +1,5 @@
 -- `builder::or` meets its contract. Assumes nothing.
-use Rattle.table.specs.Work.{mem}
+use Rattle.builder_table.specs.Work.{mem}
 use Rattle.builder.proofs.Made.{or-true, or-left, or-right, or-made, either-test}
 use mathlib.Core.Path.{sym, _∙_}
 use borrow.Author.Needs.{needs}

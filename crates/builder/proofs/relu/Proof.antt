@@ -1,5 +1,5 @@
 -- `builder::relu` meets its contract. Assumes nothing.
-use Rattle.table.specs.Work.{mem}
+use Rattle.builder_table.specs.Work.{mem}
 use Rattle.builder.proofs.Made.{relu-made}
 use borrow.Author.Needs.{needs}
 use Rattle.builder.proofs.relu.Statement.{statement}

@@ -1,5 +1,5 @@
 -- `builder::step` meets its contract. Assumes nothing.
-use Rattle.table.specs.Work.{mem}
+use Rattle.builder_table.specs.Work.{mem}
 use Rattle.builder.proofs.Made.{step-made}
 use native.Mathlib.Omega.{arith}
 use borrow.Author.Needs.{needs}

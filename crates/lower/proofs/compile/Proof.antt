@@ -6,10 +6,10 @@ use borrow.Author.Tests.{not-true, not-false}
 use lib.ListN.{length, replicate}
 use Rattle.exact.specs.Whole.{zero32}
 use Rattle.tree.specs.Tree.{treeOf}
-use Rattle.compiled.specs.Compile.{Lent, lent, roomy, compileTree}
+use Rattle.compile.specs.Compile.{Lent, lent, roomy, compileTree}
 use Rattle.lower.proofs.Lowered.{short-is, whole-is, roomy-says, bytes-are}
 use borrow.Author.Needs.{needs}
-use Rattle.built.proofs.Buildable.{buildable}
+use Rattle.lower_build_laws.proofs.Buildable.{buildable}
 use Rattle.lower.proofs.compile.Statement.{statement}
 use Rattle.lower.proofs.compile.Tie as tie
 

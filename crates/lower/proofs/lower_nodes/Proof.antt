@@ -1,9 +1,9 @@
 -- `lower::lower_nodes` meets its contract. Assumes nothing.
 use native.Mathlib.Omega.{arith}
 use lib.ListN.{length}
-use Rattle.table.specs.Work.{mem}
-use Rattle.compiled.specs.Compile.{lent}
-use Rattle.settle.proofs.Lists.{leaves-few, cursors-few}
+use Rattle.builder_table.specs.Work.{mem}
+use Rattle.compile.specs.Compile.{lent}
+use Rattle.lower_emit.proofs.Lists.{leaves-few, cursors-few}
 use Rattle.lower.proofs.Lowered.{ops-few, ops-lie, outputs-lie, terms-low, lowered}
 use borrow.Author.Needs.{needs}
 use Rattle.lower.proofs.lower_nodes.Statement.{statement}

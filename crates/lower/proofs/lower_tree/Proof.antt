@@ -4,8 +4,8 @@ use native.Mathlib.Omega.{arith}
 use mathlib.Core.Path.{ap, sym, _∙_}
 use lib.ListN.{length}
 use Rattle.tree.specs.Tree.{Parsed, treeOf, answerOf, kindsIn, countsIn}
-use Rattle.compiled.specs.Compile.{lent, compileTree}
-use Rattle.settle.specs.Settle.{outcome}
+use Rattle.compile.specs.Compile.{lent, compileTree}
+use Rattle.lower_emit.specs.Settle.{outcome}
 use Rattle.lower.proofs.Lowered.{flat-tree, refused-is, accepted-is, nodes-few}
 use borrow.Author.Needs.{needs}
 use Rattle.lower.proofs.lower_tree.Statement.{statement}

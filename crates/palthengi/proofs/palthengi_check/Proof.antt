@@ -1,7 +1,7 @@
 -- `palthengi::palthengi_check` meets its contract. Assumes nothing.
 use mathlib.Core.Path.{sym, ap, _∙_}
 use borrow.Author.Needs.{needs}
-use Rattle.palthengi.specs.Refusal.{checkNumber}
+use Rattle.tick_refusal.specs.Refusal.{checkNumber}
 use Rattle.palthengi.proofs.palthengi_check.Statement.{statement}
 use Rattle.palthengi.proofs.palthengi_check.Tie as tie
 

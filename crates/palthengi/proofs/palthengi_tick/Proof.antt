@@ -1,6 +1,6 @@
 -- `palthengi::palthengi_tick` meets its contract. Assumes nothing.
 use borrow.Author.Needs.{needs}
-use Rattle.palthengi.proofs.Told.{told-is}
+use Rattle.tick_refusal.proofs.Told.{told-is}
 use Rattle.palthengi.proofs.palthengi_tick.Statement.{statement}
 use Rattle.palthengi.proofs.palthengi_tick.Tie as tie
 

@@ -1,7 +1,7 @@
 -- `palthengi::palthengi_validate` meets its contract. Assumes nothing.
 use mathlib.Core.Path.{ap, _∙_}
 use borrow.Author.Needs.{needs}
-use Rattle.palthengi.specs.Refusal.{ofValidated}
+use Rattle.tick_refusal.specs.Refusal.{ofValidated}
 use Rattle.palthengi.proofs.palthengi_validate.Statement.{statement}
 use Rattle.palthengi.proofs.palthengi_validate.Tie as tie
 

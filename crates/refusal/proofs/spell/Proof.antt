@@ -6,7 +6,7 @@ use Prim.Native.Nat.{ℕ, _≤_}
 use native.Mathlib.Omega.{arith}
 use lib.ListN.{length, take}
 use lib.Seq.{length-take-le}
-use Rattle.kinds.specs.Kinds.{ascii}
+use Rattle.tree_kinds.specs.Kinds.{ascii}
 use Rattle.refusal.specs.Line.{sentence, nameOf, heading, lineOf}
 use Rattle.refusal.proofs.Sentences.{said}
 use borrow.Author.Needs.{needs}

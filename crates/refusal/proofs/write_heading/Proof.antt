@@ -4,7 +4,7 @@ use mathlib.Core.Path.{_∙_, ap}
 use mathlib.Core.List.{List, _++_}
 use Prim.Native.Nat.{ℕ}
 use native.Mathlib.Omega.{arith}
-use Rattle.kinds.specs.Kinds.{ascii}
+use Rattle.tree_kinds.specs.Kinds.{ascii}
 use Rattle.text.specs.Text.{decimal}
 use Rattle.refusal.specs.Line.{heading}
 use borrow.Author.Needs.{needs}

@@ -7,8 +7,8 @@ use native.Mathlib.Omega.{arith}
 use denote.Ref.{now}
 use lib.ListN.{length, take}
 use lib.Seq.{length-take-le}
-use Rattle.kinds.specs.declared.Row.{Row}
-use Rattle.kinds.proofs.Rows.{name-fits}
+use Rattle.tree_kinds.specs.declared.Row.{Row}
+use Rattle.tree_kinds.proofs.Rows.{name-fits}
 use borrow.Author.Needs.{needs}
 use Rattle.refusal.proofs.write_name.Statement.{statement}
 use Rattle.refusal.proofs.write_name.Tie as tie

@@ -4,9 +4,9 @@ use mathlib.Core.Bool.{true}
 use native.Mathlib.Omega.{arith}
 use borrow.Author.Needs.{needs}
 use borrow.Author.Tests.{eq-eqb, ne-eqb, not-true, not-false}
-use Rattle.circuit.specs.Check.{stored, circuitOk}
-use Rattle.circuit.proofs.Checked.{checked}
-use Rattle.lane.proofs.Laws.{unless-no, unless-yes}
+use Rattle.tick_check.specs.Check.{stored, circuitOk}
+use Rattle.tick_check.proofs.Checked.{checked}
+use Rattle.tick_lane.proofs.LaneLaws.{unless-no, unless-yes}
 use Rattle.tick.specs.Tick.{roomFor, shapesOf}
 use Rattle.tick.proofs.gate.Statement.{statement}
 use Rattle.tick.proofs.gate.Tie as tie

@@ -1,7 +1,7 @@
 -- `tick::tick` meets its contract. Assumes nothing.
 use mathlib.Core.Path.{sym, _∙_}
 use borrow.Author.Needs.{needs}
-use Rattle.lane.proofs.Laws.{after-refused, after-accepted}
+use Rattle.tick_lane.proofs.LaneLaws.{after-refused, after-accepted}
 use Rattle.tick.specs.Tick.{tickOf}
 use Rattle.tick.proofs.Passed.{passed}
 use Rattle.tick.proofs.tick.Statement.{statement}

@@ -4,7 +4,7 @@ use Prim.Native.Nat.{ℕ, _-_}
 use native.Mathlib.Omega.{arith}
 use borrow.Author.Needs.{needs}
 use lib.ListN.{take}
-use Rattle.verdict.specs.Verdict.{valuesVerdict}
+use Rattle.tick_verdict.specs.Verdict.{valuesVerdict}
 use Rattle.validate.proofs.judge.Statement.{statement}
 use Rattle.validate.proofs.judge.Tie as tie
 

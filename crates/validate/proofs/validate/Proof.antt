@@ -5,8 +5,8 @@ use borrow.Author.Needs.{needs}
 use borrow.Author.Tests.{not-true, not-false}
 use lib.ListN.{length-replicate}
 use Rattle.exact.specs.Whole.{zero32}
-use Rattle.circuit.specs.Check.{stored}
-use Rattle.circuit.proofs.Checked.{Checked, checked}
+use Rattle.tick_check.specs.Check.{stored}
+use Rattle.tick_check.proofs.Checked.{Checked, checked}
 use Rattle.validate.proofs.Laws.{valid-1, valid-2, valid-3}
 use Rattle.validate.proofs.validate.Statement.{statement}
 use Rattle.validate.proofs.validate.Tie as tie

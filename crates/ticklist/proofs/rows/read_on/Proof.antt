@@ -2,7 +2,7 @@
 -- Assumes nothing.
 use denote.Ref.{now}
 use native.Mathlib.Omega.{arith}
-use Rattle.listends.proofs.Ends.{unread-fits}
+use Rattle.list_ends.proofs.Ends.{unread-fits}
 use borrow.Author.Needs.{needs}
 use Rattle.ticklist.proofs.rows.read_on.Statement.{statement}
 use Rattle.ticklist.proofs.rows.read_on.Tie as tie

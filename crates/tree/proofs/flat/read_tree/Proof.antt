@@ -7,9 +7,9 @@ use borrow.Author.Needs.{needs}
 use Rattle.tree.proofs.Turn.{At, start, closed, stopped, placed, told-record, within-limits, trailing, whole}
 use mathlib.Core.Path.{_≡_, sym, _∙_, ap}
 use denote.Ref.{now}
-use Rattle.record.specs.declared.record.Record.{Record}
-use Rattle.record.specs.declared.record.Record.the-variants.{Node}
-use Rattle.record.specs.Record.{recordAt}
+use Rattle.tree_record.specs.declared.record.Record.{Record}
+use Rattle.tree_record.specs.declared.record.Record.the-variants.{Node}
+use Rattle.tree_record.specs.Record.{recordAt}
 use Rattle.tree.specs.Tree.{limited}
 use Rattle.tree.proofs.flat.read_tree.Statement.{statement}
 use Rattle.tree.proofs.flat.read_tree.Tie as tie

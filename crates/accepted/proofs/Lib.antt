@@ -1,4 +1,0 @@
-pub mod Family
-pub mod Shape
-pub mod Places
-pub mod Facts

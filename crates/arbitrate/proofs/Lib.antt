@@ -1,2 +1,0 @@
-pub mod Families
-pub mod Made

@@ -1,2 +1,0 @@
-pub mod Arbitrate
-pub mod Flat

@@ -1,0 +1,5 @@
+pub mod Builder
+pub mod Lasts
+pub mod Runs
+pub mod Steps
+pub mod Table

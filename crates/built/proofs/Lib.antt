@@ -1,3 +1,0 @@
-pub mod Nodes
-pub mod Build
-pub mod Buildable

@@ -1,6 +1,0 @@
-pub mod All
-pub mod Rising
-pub mod Count
-pub mod Whole
-pub mod Passes
-pub mod Checked

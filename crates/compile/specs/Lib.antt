@@ -1,0 +1,2 @@
+pub mod Compile
+pub mod Encode

@@ -1,2 +1,0 @@
-pub mod Encode
-pub mod Compile

@@ -1,5 +1,0 @@
-pub mod Cells
-pub mod Shape
-pub mod Images
-pub mod Rises
-pub mod Passes

@@ -1,1 +1,0 @@
-// What compile leaves of a tree passes the check of a circuit: laws only, see specs/ and proofs/.

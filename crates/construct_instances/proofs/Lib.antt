@@ -1,0 +1,7 @@
+pub mod Circuit
+pub mod Down
+pub mod Fits
+pub mod Loops
+pub mod Steps
+pub mod Turns
+pub mod Up

@@ -1,0 +1,4 @@
+pub mod Circuit
+pub mod Same
+pub mod Sizes
+pub mod Stop

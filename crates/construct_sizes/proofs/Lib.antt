@@ -1,0 +1,10 @@
+pub mod Bounds
+pub mod Circuit
+pub mod Coef
+pub mod Cursors
+pub mod DownLow
+pub mod Heavy
+pub mod Running
+pub mod Tree
+pub mod TreeLow
+pub mod Whole

@@ -1,3 +1,0 @@
-pub mod Families
-pub mod Made
-pub mod Bounds

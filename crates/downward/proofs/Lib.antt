@@ -1,9 +1,0 @@
-pub mod Counts
-pub mod Store
-pub mod Flags
-pub mod Spread
-pub mod Parts
-pub mod Kids
-pub mod Node
-pub mod Step
-pub mod Reach

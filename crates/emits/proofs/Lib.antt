@@ -1,4 +1,0 @@
-pub mod Forms
-pub mod Counted
-pub mod Written
-pub mod Emitted

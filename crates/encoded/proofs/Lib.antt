@@ -1,3 +1,0 @@
-pub mod Sets
-pub mod Places
-pub mod Back

@@ -1,3 +1,0 @@
-pub mod Valuing
-pub mod Running
-pub mod Unique

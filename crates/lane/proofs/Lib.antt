@@ -1,2 +1,0 @@
-pub mod Above
-pub mod Laws

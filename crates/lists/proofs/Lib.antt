@@ -1,0 +1,4 @@
+pub mod Entries
+pub mod Fill
+pub mod Sets
+pub mod Tests

@@ -1,0 +1,10 @@
+pub mod Arbitrate
+pub mod Composite
+pub mod Counts
+pub mod Infos
+pub mod Lowered
+pub mod Nodes
+pub mod Plain
+pub mod Raw
+pub mod Stack
+pub mod Step

@@ -1,0 +1,4 @@
+pub mod Lists
+pub mod Made
+pub mod Settled
+pub mod Slots

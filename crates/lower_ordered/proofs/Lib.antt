@@ -1,0 +1,3 @@
+pub mod GatesMade
+pub mod OrderedMade
+pub mod StopsMade

@@ -1,0 +1,13 @@
+-- `descend::stuck` meets its contract. Assumes nothing.
+use mathlib.Core.Path.{refl}
+use Rattle.lower_reach.proofs.stuck.Statement.{statement}
+use Rattle.lower_reach.proofs.stuck.Tie as tie
+
+returns : tie.Need-returns
+returns c = refl
+
+pub stuck-spec : {M : Type 1} → statement M
+stuck-spec =
+    tie.close
+    (tie.spec
+    returns)

@@ -1,0 +1,9 @@
+pub mod Counts
+pub mod Flags
+pub mod Kids
+pub mod Node
+pub mod Parts
+pub mod Reach
+pub mod Spread
+pub mod Step
+pub mod Store

@@ -1,0 +1,3 @@
+pub mod CursorsMade
+pub mod FlagsMade
+pub mod HaltsMade

@@ -1,0 +1,14 @@
+pub mod Arbitration
+pub mod CountCircuit
+pub mod Counted
+pub mod Enough
+pub mod Joint
+pub mod Ops
+pub mod Rises
+pub mod Room
+pub mod RoomCircuit
+pub mod Sets
+pub mod Sized
+pub mod Slots
+pub mod Terms
+pub mod Total

@@ -1,4 +1,0 @@
-pub mod Stop
-pub mod Same
-pub mod Sizes
-pub mod Circuit

@@ -1,5 +1,0 @@
-pub mod Gates
-pub mod Clears
-pub mod Stops
-pub mod Picks
-pub mod Ordered

@@ -1,1 +1,0 @@
-// Laws only: what lower_ordered leaves is the construction's.

@@ -1,4 +1,0 @@
-pub mod Arbitration
-pub mod Circuit
-pub mod Enough
-pub mod Counted

@@ -1,1 +1,0 @@
-// How much room building takes in floats, as laws only: see proofs/.

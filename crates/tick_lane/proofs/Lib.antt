@@ -1,0 +1,4 @@
+pub mod Above
+pub mod AnswersLaws
+pub mod Cells
+pub mod LaneLaws

@@ -1,0 +1,39 @@
+-- `record::u16_at` meets its contract: both bytes are below 256.
+-- Assumes nothing.
+use Prim.Native.Nat.{_+_}
+use native.Mathlib.Omega.{arith}
+use borrow.Author.Needs.{needs}
+use Rattle.tree_record.proofs.record.u16_at.Statement.{statement}
+use Rattle.tree_record.proofs.record.u16_at.Tie as tie
+
+shared-slice-read-low : tie.Need-shared-slice-read-low
+shared-slice-read-low c = search needs
+
+cast-low : tie.Need-cast-low
+cast-low c = omega (arith, c .shared-slice-known .given (c .before .args .at))
+
+add-high : tie.Need-add-high
+add-high c = search needs
+
+shared-slice-read-high : tie.Need-shared-slice-read-high
+shared-slice-read-high c = search needs
+
+cast-high : tie.Need-cast-high
+cast-high c = omega (arith, c .shared-slice-known2 .given (c .before .before .args .at + 1))
+
+mul-result : tie.Need-mul-result
+mul-result c = omega (arith, c .shared-slice-known2 .given (c .before .before .args .at + 1))
+
+add-result : tie.Need-add-result
+add-result c =
+    let given = c .shared-slice-known2 .given in
+    let at = c .before .before .args .at in
+    omega (arith, given (at + 1), given at)
+
+returns : tie.Need-returns
+returns c = search needs
+
+pub u16-at-spec : {M : Type 1} → statement M
+u16-at-spec =
+    tie.close
+    (tie.spec shared-slice-read-low cast-low add-high shared-slice-read-high cast-high mul-result add-result returns)
