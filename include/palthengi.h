@@ -1,7 +1,17 @@
 /* Palthengi for C: compiling a tree, the check of a lent circuit, validation of a value table, and one tick.
  *
- * Every function answers on every input and leaves exactly what is said below; that is proved of the code in target/staticlib/libpalthengi.a.
- * It allocates nothing and keeps nothing between calls: all that it works on is lent by the caller.
+ * Every function answers on every input and leaves exactly what is said below. That is proved of the source in crates/palthengi and below it;
+ * of the archive target/staticlib/libpalthengi.a it holds as far as the compiler that made it is right.
+ * It allocates nothing and keeps nothing between calls: all that it works on is lent by the caller. So it may be called from several threads
+ * at once, on different storage (a circuit that is only ticked may be shared), and from an interrupt.
+ *
+ * For a controls engineer. A tick asks no leaf: the row says beforehand what each leaf answers if it is ticked. So what works out the row
+ * must have no effect of its own, and acts after the tick: a leaf whose status is not 3 was ticked, do what it stands for; a leaf whose halt
+ * is 1 must be stopped now. A leaf with status 3 and halt 0 was not asked, whatever its row says.
+ *
+ * Floats are those of IEEE 754 in the environment that a C program starts with: round to nearest, and no flushing of small numbers to zero
+ * (no -ffast-math in what sets the control register). A compiled circuit is plain data without pointers: it may be compiled on another
+ * machine of the same byte order, stored, and lent as const data; each tick checks it anew.
  *
  * A slice is a pointer and a length, the number of elements (not bytes). What the caller owes:
  *   - the pointer leads to so many elements, aligned as the element's type, each of which has a value (outputs too: static arrays have, 0);
@@ -15,6 +25,13 @@
 
 #include <stddef.h>
 #include <stdint.h>
+
+/* The version of what is declared here: it changes when a declaration or its meaning does. */
+#define PALTHENGI_VERSION 1
+
+#ifdef __cplusplus
+extern "C" {
+#endif
 
 /* ---- Limits of a tree */
 #define PALTHENGI_NODES_MOST 128
@@ -178,5 +195,9 @@ palthengi_refusal palthengi_tick(palthengi_counts counts,
                                  uint32_t *cursors, size_t cursors_len, float *values, size_t values_len,
                                  uint8_t *statuses, size_t statuses_len, uint8_t *halts, size_t halts_len,
                                  uint8_t *edges, size_t edges_len);
+
+#ifdef __cplusplus
+}
+#endif
 
 #endif

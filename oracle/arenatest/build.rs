@@ -1,5 +1,5 @@
-//! Links the archive of crate arenac.
+//! Links the archive of crate arena_c.
 
 fn main() {
-    archive::link("arenac");
+    archive::link("arena_c");
 }

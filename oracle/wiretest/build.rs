@@ -1,5 +1,5 @@
-//! Links the archive of crate wirec.
+//! Links the archive of crate wire_c.
 
 fn main() {
-    archive::link("wirec");
+    archive::link("wire_c");
 }

@@ -1,13 +1,14 @@
--- How an operation's ways through its code give its outcome: refused, shared, or written. Assumes nothing.
+-- How an operation's ways through its code give its outcome: refused, shared, or written.
 use mathlib.Core.Path.{_≡_, refl, ap, _∙_}
 use mathlib.Core.List.{List, [], _∷_}
-use mathlib.Core.Bool.{Bool, true, false, _&&_, cond, false≢true}
+use mathlib.Core.Bool.{Bool, true, false, cond}
 use Prim.Native.Nat.{ℕ, _+_, _-_, _≤_, _<_}
 use native.Mathlib.Omega.{arith}
 use borrow.Author.Tests.{eq-eqb, ne-eqb, ltb-true, leb-true}
 use lib.Dec.{ltb}
 use lib.ListN.{length, set}
 use lib.Ieee.{Float, binary32, add}
+use Rattle.lists.proofs.Tests.{both-sides}
 use Rattle.exact.specs.Whole.{zero32, one32, minusOne32}
 use Rattle.wire.specs.declared.Form.{Form}
 use Rattle.wire.specs.declared.Term.{Term}
@@ -22,10 +23,6 @@ use Rattle.arena_terms.specs.Steps.{Put}
 
 -- ---- tests
 
-pub and-true : (a b : Bool) → a && b ≡ true → (a ≡ true) × (b ≡ true)
-and-true true b e = (refl, e)
-and-true false b e = absurd (false≢true e)
-
 -- there is room for a sum
 pub record SumFits (slots : ℕ) (room : Room) (a b : Form) : Type 0 where
   pub ok : room .ok ≡ true
@@ -35,9 +32,9 @@ pub record SumFits (slots : ℕ) (room : Room) (a b : Form) : Type 0 where
 
 pub sum-fits : (slots : ℕ) (room : Room) (a b : Form) → sumFits slots room a b ≡ true → SumFits slots room a b
 sum-fits slots room a b e =
-    let p = and-true _ _ e in
-    let q = and-true _ _ (p .1) in
-    let s = and-true _ _ (q .1) in
+    let p = both-sides _ _ e in
+    let q = both-sides _ _ (p .1) in
+    let s = both-sides _ _ (q .1) in
     record { ok = p .0; a-below = leb-true _ _ (q .0); b-below = leb-true _ _ (s .0); enough = leb-true _ _ (s .1) }
 
 pub record ScaledFits (slots : ℕ) (room : Room) (a : Form) : Type 0 where
@@ -47,8 +44,8 @@ pub record ScaledFits (slots : ℕ) (room : Room) (a : Form) : Type 0 where
 
 pub scaled-fits : (slots : ℕ) (room : Room) (a : Form) → scaledFits slots room a ≡ true → ScaledFits slots room a
 scaled-fits slots room a e =
-    let p = and-true _ _ e in
-    let q = and-true _ _ (p .1) in
+    let p = both-sides _ _ e in
+    let q = both-sides _ _ (p .1) in
     record { ok = p .0; below = leb-true _ _ (q .0); enough = leb-true _ _ (q .1) }
 
 -- ---- the answers of the inner functions
@@ -83,7 +80,7 @@ written-leaves {used} {bias} {ts} {next} o e p h =
 -- ---- one wire
 
 pub single-fits : (slots : ℕ) (room : Room) → singleFits slots room ≡ true → room .used < slots
-single-fits slots room e = ltb-true (room .used) slots (and-true (room .ok) (ltb (room .used) slots) e .1)
+single-fits slots room e = ltb-true (room .used) slots (both-sides (room .ok) (ltb (room .used) slots) e .1)
 
 put-single : (ws : List ℕ) (cs : List Float) (k w : ℕ) → Put ws cs k (record { wire = record { 0 = w }; coef = one32 } ∷ []) (set ws k w) (set cs k one32) (k + 1)
 put-single ws cs k w = record { wires = refl; coefs = refl; used = refl }

@@ -1,5 +1,6 @@
--- The operations of crate sums, specs/Sums, in an arena: the terms in use are those of the two lent pools below `used`, and a new form's terms are written right past them.
--- An operation answers a form and the room that is left. Where there was no room it writes nothing, and the flag `ok` falls and stays down. Definitions only.
+-- The operations of crate arena_terms, specs/Sums, in an arena: the terms in use are those of the two lent pools below `used`, and a new form's terms are written right past them.
+-- An operation answers a form and the room that is left. Where there was no room it writes nothing, and the flag `ok` falls and stays down.
+-- Inner: the shape of the code; nobody need believe it.
 use Prim.Native.Nat.{ℕ, _+_}
 use mathlib.Core.Path.{_≡_}
 use mathlib.Core.List.{List, [], _∷_}

@@ -1,4 +1,4 @@
--- An answer of the arena, in one row. Assumes nothing.
+-- An answer of the arena, in one row.
 use Prim.Native.Nat.{ℕ}
 use mathlib.Core.Path.{_≡_, _∙_}
 use mathlib.Core.List.{List}

@@ -1,5 +1,5 @@
 -- What an outcome gives a caller: the form stands for the operation's value, what stood for something still does, and with room enough the flag stays up.
--- Every law takes what a contract says, `Leaves` of the operation's outcome. Assumes nothing.
+-- Every law takes what a contract says, `Leaves` of the operation's outcome.
 use mathlib.Core.Path.{_≡_, refl, sym, ap, _∙_}
 use mathlib.Core.List.{List, [], _∷_}
 use mathlib.Core.Bool.{Bool, true, false, _&&_, cond, false≢true}
@@ -26,7 +26,8 @@ use Rattle.arena_terms.specs.Steps.{wiresIn, coefsIn, Put}
 use Rattle.arena_laws.specs.Holds.{Is, Holds, Grows, Lives}
 use Rattle.arena_terms.proofs.Put.{put-keeps, put-own}
 use Rattle.arena_laws.proofs.Lengths.{merged-length, scaled-length}
-use Rattle.arena.proofs.Outcome.{sum-fits, scaled-fits, single-fits, and-true}
+use Rattle.arena.proofs.Outcome.{sum-fits, scaled-fits, single-fits}
+use Rattle.lists.proofs.Tests.{both-sides}
 
 -- ---- forms that stand for values
 
@@ -120,7 +121,7 @@ module _ (ws : List ℕ) (cs : List Float) (room : Room) (w : ℕ) {ws′ : List
 
   pub single-grows : Grows ws cs room ws′ cs′ (r .room)
   unfolding singleIn tried
-  single-grows = left-grows l (tried-grows ws cs room zero32 one-term single-fit (λ e. and-true _ _ e .0))
+  single-grows = left-grows l (tried-grows ws cs room zero32 one-term single-fit (λ e. both-sides _ _ e .0))
 
   pub single-holds : Holds ws′ cs′ (r .room) (r .form) (single w)
   unfolding singleIn tried single
@@ -147,7 +148,7 @@ module _ (ws : List ℕ) (cs : List Float) (room : Room) (a : Form) (factor : Fl
 
   pub scaled-grows : Grows ws cs room ws′ cs′ (r .room)
   unfolding scaledIn tried
-  scaled-grows = left-grows l (tried-grows ws cs room (times factor (a .bias)) scaled-new scaled-fit (λ e. and-true _ _ e .0))
+  scaled-grows = left-grows l (tried-grows ws cs room (times factor (a .bias)) scaled-new scaled-fit (λ e. both-sides _ _ e .0))
 
   pub scaled-holds : {x : Affine} → Holds ws cs room a x → Holds ws′ cs′ (r .room) (r .form) (scaled factor x)
   unfolding scaledIn tried scaled
@@ -155,7 +156,7 @@ module _ (ws : List ℕ) (cs : List Float) (room : Room) (a : Form) (factor : Fl
       left-holds l
       (tried-holds ws cs room (times factor (a .bias)) scaled-new scaled-fit (scaled factor x)
       (λ e. let f = scaled-fits _ room a e in omega (arith, f .enough, new-length))
-      (λ e. let q = h .holds (and-true _ _ e .0) in (ap (times factor) (q .bias), ap (scaledTerms factor) (q .terms))))
+      (λ e. let q = h .holds (both-sides _ _ e .0) in (ap (times factor) (q .bias), ap (scaledTerms factor) (q .terms))))
 
   pub scaled-lives : {x : Affine} → Holds ws cs room a x → Lives (termSlots (length ws) (length cs)) room (r .room) (length (x .terms))
   unfolding scaledIn tried
@@ -236,7 +237,7 @@ module _ (ws : List ℕ) (cs : List Float) (room : Room) (a b : Form) where
     plus-grows =
         left-grows l
         (plus-cases (λ (o : Outcome). Grows ws cs room (o .wires) (o .coefs) (o .room)) (λ e. grows-none) (λ e. grows-none)
-        (λ n m. tried-grows ws cs room sum-bias sum-new sum-fit (λ e. and-true _ _ e .0)))
+        (λ n m. tried-grows ws cs room sum-bias sum-new sum-fit (λ e. both-sides _ _ e .0)))
 
     pub plus-holds : {x y : Affine} → Holds ws cs room a x → Holds ws cs room b y → Holds ws′ cs′ (r .room) (r .form) (plus x y)
     unfolding plus
@@ -253,7 +254,7 @@ module _ (ws : List ℕ) (cs : List Float) (room : Room) (a b : Form) where
         })
         (λ n m. tried-holds ws cs room sum-bias sum-new sum-fit (plus x y)
         (λ e. let f = sum-fits _ room a b e in omega (arith, f .enough, sum-length))
-        (λ e. let t = and-true _ _ e .0 in let p = ha .holds t in let q = hb .holds t in (
+        (λ e. let t = both-sides _ _ e .0 in let p = ha .holds t in let q = hb .holds t in (
           (λ i. add binary32 (p .bias i) (q .bias i)),
           (λ i. kept (merge (p .terms i) (q .terms i))) ∙ some-summed (x .terms) (y .terms) (λ z. n (is-length p ∙ z)) (λ z. m (is-length q ∙ z)),
         ))))

@@ -1,7 +1,7 @@
--- A sum has at most as many terms as its two forms, and a multiple as many as its form. Assumes nothing.
+-- A sum has at most as many terms as its two forms, and a multiple as many as its form.
 use mathlib.Core.List.{List, [], _∷_, map}
 use mathlib.Core.Bool.{Bool, true, false, cond}
-use Prim.Native.Nat.{ℕ, suc, _+_, _≤_}
+use Prim.Native.Nat.{suc, _+_, _≤_}
 use native.Mathlib.Omega.{arith}
 use lib.Dec.{ltb}
 use lib.ListN.{length, length-map}

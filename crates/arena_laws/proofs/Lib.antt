@@ -1,3 +1,2 @@
 pub mod Holds
 pub mod Lengths
-pub mod Proper

@@ -1,4 +1,5 @@
--- What a caller of the arena goes by: which form stands for which value, that a later operation leaves it so, and how much room is enough. Definitions only.
+-- What a caller of the arena goes by: which form stands for which value, that a later operation leaves it so, and how much room is enough.
+-- Inner: the shape of the code; nobody need believe it.
 use Prim.Native.Nat.{ℕ, _+_, _≤_}
 use mathlib.Core.Path.{_≡_}
 use mathlib.Core.List.{List}

@@ -1,4 +1,4 @@
--- One comparison of lengths is another. Assumes nothing.
+-- One comparison of lengths is another.
 use mathlib.Core.Path.{_≡_}
 use Prim.Native.Nat.{ℕ, _≤_}
 use lib.Dec.{leb, leb→le, le→leb}

@@ -1,5 +1,5 @@
 -- Whether an arena has room for an operation: all that was asked so far had room, the forms lie below `used`, and there are slots for the new terms.
--- Definitions only.
+-- Inner: the shape of the code; nobody need believe it.
 use Prim.Native.Nat.{ℕ, _+_}
 use mathlib.Core.Bool.{Bool, _&&_}
 use lib.Dec.{leb, ltb}

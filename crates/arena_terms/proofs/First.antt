@@ -1,4 +1,4 @@
--- The first term of a merge of two parts of the pools, by where it stands. Assumes nothing.
+-- The first term of a merge of two parts of the pools, by where it stands.
 use mathlib.Core.Path.{_≡_, refl}
 use mathlib.Core.List.{List, [], _∷_}
 use Prim.Native.Nat.{ℕ, _+_, _-_, _≤_, _<_}

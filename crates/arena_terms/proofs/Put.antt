@@ -1,28 +1,25 @@
--- What terms that are put at an index leave of the pools: what lies below stays, and the terms are read back. Assumes nothing.
+-- What terms that are put at an index leave of the pools: what lies below stays, and the terms are read back.
 use mathlib.Core.Path.{_≡_, refl, _∙_}
 use mathlib.Core.List.{List, [], _∷_, _++_, map, map-append}
 use mathlib.Core.Bool.{Bool, true, false, cond}
-use Prim.Native.Nat.{ℕ, suc, _+_, _≤_, _<_}
+use Prim.Native.Nat.{ℕ, suc, _+_, _≤_}
 use native.Mathlib.Nat.{add-zero, add-suc, suc-add}
 use native.Mathlib.Omega.{arith}
 use lib.ListN.{length, getD, set, length-append, length-map, length-set}
-use lib.Seq.{sets, getD-set-same, getD-set-other}
+use lib.Seq.{sets, getD-set-same}
 use lib.Ieee.{Float, nan, eq}
 use Rattle.exact.specs.Whole.{zero32}
 use Rattle.wire.specs.declared.Term.{Term}
 use Rattle.lists.specs.Each.{each}
 use Rattle.wire.specs.Terms.{part, termAt}
 use Rattle.lists.proofs.Entries.{each-same}
+use Rattle.lists.proofs.Sets.{sets-before}
 use Rattle.arena_terms.specs.Sums.{kept}
 use Rattle.arena_terms.specs.Steps.{wiresIn, coefsIn, Put}
 
 -- ---- lists
 
 module _ {A : Type 0} where
-  getD-sets : (vs l : List A) (k i : ℕ) (d : A) → i < k → getD (sets l k vs) i d ≡ getD l i d
-  getD-sets [] l k i d h = refl
-  getD-sets (v ∷ vs) l k i d h = getD-sets vs (set l k v) (suc k) i d (omega arith) ∙ getD-set-other l k i v d (λ e. omega arith)
-
   sets-append : (vs us l : List A) (k : ℕ) → sets (sets l k vs) (k + length vs) us ≡ sets l k (vs ++ us)
   sets-append [] us l k = rw add-zero
   sets-append (v ∷ vs) us l k = rw (add-suc, ← suc-add) (sets-append vs us (set l k v) (suc k))
@@ -38,7 +35,7 @@ part-sets : (ws : List ℕ) (cs : List Float) (k : ℕ) (ts : List Term) (i n : 
 unfolding part
 part-sets ws cs k ts i n h =
     each-same (termAt (sets ws k (wiresIn ts)) (sets cs k (coefsIn ts))) (termAt ws cs) i n
-    (λ m a b j. record { wire = record { 0 = getD-sets (wiresIn ts) ws k m 0 (omega arith) j }; coef = getD-sets (coefsIn ts) cs k m nan (omega arith) j })
+    (λ m a b j. record { wire = record { 0 = sets-before (wiresIn ts) ws k m 0 (omega arith) j }; coef = sets-before (coefsIn ts) cs k m nan (omega arith) j })
 
 part-own : (ts : List Term) (ws : List ℕ) (cs : List Float) (k : ℕ) → k + length ts ≤ length ws → k + length ts ≤ length cs → part (sets ws k (wiresIn ts)) (sets cs k (coefsIn ts)) k (length ts) ≡ ts
 unfolding part each
@@ -46,8 +43,8 @@ part-own [] ws cs k hw hc = refl
 part-own (t ∷ ts) ws cs k hw hc =
     let ws′ = set ws k (t .wire .0) in
     let cs′ = set cs k (t .coef) in
-    let w : getD (sets ws′ (suc k) (wiresIn ts)) k 0 ≡ t .wire .0 = getD-sets (wiresIn ts) ws′ (suc k) k 0 (omega arith) ∙ getD-set-same ws k (t .wire .0) 0 (omega arith) in
-    let c : getD (sets cs′ (suc k) (coefsIn ts)) k nan ≡ t .coef = getD-sets (coefsIn ts) cs′ (suc k) k nan (omega arith) ∙ getD-set-same cs k (t .coef) nan (omega arith) in
+    let w : getD (sets ws′ (suc k) (wiresIn ts)) k 0 ≡ t .wire .0 = sets-before (wiresIn ts) ws′ (suc k) k 0 (omega arith) ∙ getD-set-same ws k (t .wire .0) 0 (omega arith) in
+    let c : getD (sets cs′ (suc k) (coefsIn ts)) k nan ≡ t .coef = sets-before (coefsIn ts) cs′ (suc k) k nan (omega arith) ∙ getD-set-same cs k (t .coef) nan (omega arith) in
     λ j. record { wire = record { 0 = w j }; coef = c j } ∷ part-own ts ws′ cs′ (suc k) (omega (arith, length-set ws k (t .wire .0))) (omega (arith, length-set cs k (t .coef))) j
 
 -- ---- terms put at an index

@@ -1,4 +1,4 @@
--- The loops that merge and scale: a turn, and the ends. Assumes nothing.
+-- The loops that merge and scale: a turn, and the ends.
 use mathlib.Core.Path.{_≡_, refl}
 use mathlib.Core.List.{List, [], _∷_, _++_}
 use mathlib.Core.Bool.{Bool, true, false, cond}

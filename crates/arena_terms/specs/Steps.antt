@@ -1,4 +1,4 @@
--- What writing terms to the two pools does: terms put at an index, and one step of a merge. Definitions only.
+-- What writing terms to the two pools does: terms put at an index, and one step of a merge. Inner: the shape of the code; nobody need believe it.
 use Prim.Native.Nat.{ℕ, _+_, _-_, _≤_, _<_}
 use mathlib.Core.Path.{_≡_}
 use mathlib.Core.List.{List, _∷_, map}

@@ -1,9 +1,8 @@
 -- The operations of wire.rs on forms as values, a bias and a list of terms: "A form is a bias and weighted wires, sorted by wire, duplicates summed,
 -- zero coefficients dropped; its bias and coefficients are f32." Definitions only.
-use Prim.Native.Nat.{ℕ, suc, _≤_}
-use mathlib.Core.Path.{_≡_}
+use Prim.Native.Nat.{ℕ}
 use mathlib.Core.List.{List, [], _∷_, map}
-use mathlib.Core.Bool.{false, cond}
+use mathlib.Core.Bool.{cond}
 use lib.Dec.{ltb}
 use lib.Ieee.{Float, binary32, add, mul, eq}
 use Rattle.exact.specs.Whole.{zero32, one32, minusOne32}
@@ -76,19 +75,3 @@ oneMinus x = offset one32 (scaled minusOne32 x)
 unfoldable pub plus : Affine → Affine → Affine
 unfolding summed
 plus x y = record { bias = add binary32 (x .bias) (y .bias); terms = summed (x .terms) (y .terms) }
-
--- ---- "sorted by wire, duplicates summed, zero coefficients dropped"
-
--- wires strictly rise, the first being w or more
-abbrev pub Rises : ℕ → List Term → Type 0
-Rises w [] = Unit {0}
-Rises w (t ∷ ts) = (w ≤ t .wire .0) × Rises (suc (t .wire .0)) ts
-
--- no coefficient compares equal to 0
-abbrev pub NoZero : List Term → Type 0
-NoZero [] = Unit {0}
-NoZero (t ∷ ts) = (eq (t .coef) zero32 ≡ false) × NoZero ts
-
-pub record Proper (x : Affine) : Type 0 where
-  pub rises : Rises 0 (x .terms)
-  pub no-zero : NoZero (x .terms)

@@ -1,6 +1,5 @@
--- Each way through an operation's code, as a chain of what its callees leave. Assumes nothing.
-use Prim.Native.Nat.{ℕ}
-use mathlib.Core.Path.{_≡_, refl, sym, _∙_}
+-- Each way through an operation's code, as a chain of what its callees leave.
+use mathlib.Core.Path.{_≡_, sym, _∙_}
 use mathlib.Core.Bool.{Bool, true, false, _||_}
 use borrow.Author.Tests.{eq-eqb, ne-eqb}
 use lib.Ieee.{Float, binary32, sub, eq, le}

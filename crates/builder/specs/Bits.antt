@@ -1,6 +1,5 @@
 -- builder.rs on all that is lent: each operation as the equation that its code meets. That the forms and ops are the construction's is proved in proofs/.
--- Definitions only.
-use Prim.Native.Nat.{ℕ}
+-- Inner: the shape of the code; nobody need believe it.
 use mathlib.Core.Bool.{Bool, cond, not, _&&_, _||_}
 use lib.Dec.{eqb}
 use lib.Ieee.{Float, binary32, sub, eq, le}

@@ -1,15 +1,15 @@
 -- builder.rs followed: each operation gives the construction's form, over floats, and appends exactly its op; it leaves what stands; and it needs so
--- much room. Assumes nothing.
-use Prim.Native.Nat.{ℕ, suc, _+_, _*_, _≤_}
+-- much room.
+use Prim.Native.Nat.{ℕ}
 use native.Mathlib.Omega.{arith}
-use mathlib.Core.Path.{_≡_, refl, sym, ap, _∙_}
+use mathlib.Core.Path.{_≡_, sym, ap}
 use mathlib.Core.List.{List, [], _∷_}
 use mathlib.Core.Bool.{Bool, true, false, cond, not, _&&_, _||_}
-use borrow.Author.Tests.{ne-eqb, eqb-true}
+use borrow.Author.Tests.{ne-eqb}
 use lib.Dec.{eqb}
 use lib.ListN.{length}
 use lib.Ieee.{Float, binary32, sub, eq, le}
-use Rattle.exact.specs.Whole.{diff, zero32, one32, minusOne32}
+use Rattle.exact.specs.Whole.{zero32, one32, minusOne32}
 use Rattle.wire.specs.declared.Form.{Form}
 use Rattle.wire.specs.declared.Term.{Term}
 use Rattle.wire.specs.Terms.{Affine, constantForm}
@@ -22,12 +22,12 @@ use Rattle.walk.specs.Kind.{bit}
 use Rattle.construct.specs.Forms.{Open}
 use Rattle.construct.specs.Builder as B
 use Rattle.construct.specs.Builder.{Op, Out}
-use Rattle.construct_floats.specs.Floats.{number, difference, empty, knownAt, known, floats}
+use Rattle.construct_floats.specs.Floats.{number, empty, knownAt, known, floats}
 use Rattle.construct_floats.proofs.Literals.{number-zero, number-one, difference-one, difference-minus-one}
 use Rattle.builder_table.specs.declared.Builder.{Builder}
 use Rattle.builder_table.specs.Work.{Mem, Ended, Whole, kept}
-use Rattle.builder_table.specs.Steps.{plusIn, scaledIn, oneMinusIn, pushIn}
-use Rattle.builder_laws.specs.Table.{Ops, Stands, Gives, Grown, Lasts}
+use Rattle.builder_table.specs.Steps.{oneMinusIn, pushIn}
+use Rattle.builder_laws.specs.Table.{Ops, Stands, Gives, Grown}
 use Rattle.builder_laws.proofs.Table.{grown-none, grown-then, stands-still, whole-still, gives-kept, plus-grown, plus-gives, scaled-grown, scaled-gives, one-minus-grown, one-minus-gives, push-grown, push-gives}
 use Rattle.builder.specs.Bits.{bitForm, isTrue, isFalse, minusIn, reluIn, isZeroIn, stepIn, atLeastIn, andIn, eitherIn, orIn}
 

@@ -1,4 +1,4 @@
--- How much room each operation of builder.rs needs: so many terms of the arena, and so many ops. Assumes nothing.
+-- How much room each operation of builder.rs needs: so many terms of the arena, and so many ops.
 use Prim.Native.Nat.{ℕ, _+_, _*_, _≤_}
 use native.Mathlib.Omega.{arith}
 use mathlib.Core.Path.{_≡_, refl}
@@ -20,7 +20,7 @@ use Rattle.construct.specs.Builder.{Op}
 use Rattle.construct_floats.specs.Floats.{floats}
 use Rattle.builder_table.specs.declared.Builder.{Builder}
 use Rattle.builder_table.specs.Work.{Mem, Whole, kept}
-use Rattle.builder_table.specs.Steps.{plusIn, scaledIn, oneMinusIn, pushIn}
+use Rattle.builder_table.specs.Steps.{oneMinusIn, pushIn}
 use Rattle.builder_laws.specs.Table.{Ops, Stands, Lasts}
 use Rattle.builder_laws.proofs.Table.{stands-still, whole-still, lasts-kept, lasts-then, lasts-wide, plus-grown, plus-gives, plus-lasts, scaled-grown, scaled-gives, scaled-lasts, one-minus-grown, one-minus-lasts, push-grown, push-gives, push-lasts}
 use Rattle.builder.specs.Bits.{bitForm, isTrue, isFalse, minusIn, reluIn, isZeroIn, stepIn, atLeastIn, andIn, eitherIn, orIn}

@@ -1,4 +1,4 @@
--- How work on the table is followed from one step to the next: what stays, which forms still stand, and that rooms add up. Assumes nothing.
+-- How work on the table is followed from one step to the next: what stays, which forms still stand, and that rooms add up.
 use Prim.Native.Nat.{ℕ, suc, _+_, _-_, _≤_, _<_}
 use native.Mathlib.Omega.{arith}
 use mathlib.Core.Path.{_≡_, refl, subst, _∙_}
@@ -13,7 +13,7 @@ use Rattle.builder_table.specs.Slots.{opsFrom}
 use Rattle.builder_table.specs.Work.{Mem, Whole, loaded, saved}
 use Rattle.builder_laws.specs.Table.{Ops, Stands, Grown}
 use Rattle.builder_laws.proofs.Table.{saved-own, saved-other, saved-nums, saved-biases, ops-still, lasts-kept, lasts-on, lasts-wide}
-use Rattle.builder_laws.specs.Runs.{Keeps, Runs, Rows, Falls, StackAt}
+use Rattle.builder_laws.proofs.Running.{Keeps, Runs, Rows, Falls, StackAt}
 
 -- ---- what stays
 

@@ -1,5 +1,5 @@
 -- Each operation of table and builder as a step: the op that it makes, the room that it needs, and the form that it answers. All leave every slot below
--- the ops. Assumes nothing.
+-- the ops.
 use Prim.Native.Nat.{ℕ, _+_, _*_}
 use mathlib.Core.List.{List}
 use lib.Ieee.{Float}
@@ -17,7 +17,7 @@ use Rattle.builder_laws.proofs.Table as T
 use Rattle.builder.specs.Bits.{isZeroIn, atLeastIn, andIn, orIn}
 use Rattle.builder_laws.proofs.Builder.{not-gives, zero-grown, zero-gives, least-grown, least-gives, and-grown, and-gives, or-grown, or-gives}
 use Rattle.builder_laws.proofs.Lasts.{size, zero-lasts, least-lasts, and-lasts, or-lasts}
-use Rattle.builder_laws.specs.Runs.{Runs}
+use Rattle.builder_laws.proofs.Running.{Runs}
 use Rattle.builder_laws.proofs.Runs.{keeps-grown, Ready}
 
 -- the ops are o's, and so is the form

@@ -1,32 +1,30 @@
--- The operations of the table followed: each gives what the construction over floats gives, leaves what stands, and needs so much room. Assumes nothing.
+-- The operations of the table followed: each gives what the construction over floats gives, leaves what stands, and needs so much room.
 use Prim.Native.Nat.{ℕ, suc, _+_, _*_, _≤_, _<_}
 use native.Mathlib.Omega.{arith}
 use native.Mathlib.Numerals.{add-one}
-use mathlib.Core.Path.{_≡_, refl, sym, ap, _∙_}
+use mathlib.Core.Path.{_≡_, refl, ap, _∙_}
 use mathlib.Core.List.{List, [], _∷_}
 use mathlib.Core.Bool.{Bool, true, false, cond, false≢true}
 use borrow.Author.Tests.{leb-true, leb-false}
 use lib.Dec.{leb}
-use lib.ListN.{length, getD, set, length-set}
+use lib.ListN.{length, set, length-set}
 use lib.Seq.{getD-set-same, getD-set-other}
 use lib.Ieee.{Float, nan}
-use Rattle.exact.specs.Whole.{minusOne32}
 use Rattle.wire.specs.declared.Form.{Form}
 use Rattle.wire.specs.Terms.{Affine}
 use Rattle.wire.specs.Storage.{termSlots}
-use Rattle.arena_room.specs.declared.Formed.{Formed}
 use Rattle.arena_room.specs.declared.Room.{Room}
 use Rattle.arena_terms.specs.Sums as S
 use Rattle.arena.specs.Arena as A
 use Rattle.arena_laws.specs.Holds.{Is, Holds, Grows, Lives}
 use Rattle.arena_laws.proofs.Holds.{grows-none, grows-then, holds-stays, single-grows, single-holds, single-lives, scaled-grows, scaled-holds, scaled-lives, one-minus-grows, one-minus-holds, one-minus-lives, plus-grows, plus-holds, plus-lives}
-use Rattle.construct.specs.Builder.{Op, Out, push}
+use Rattle.construct.specs.Builder.{Op, push}
 use Rattle.construct_floats.specs.Floats.{floats}
 use Rattle.builder_table.specs.declared.Builder.{Builder}
 use Rattle.builder_table.specs.Slots.{opsFrom}
-use Rattle.builder_table.specs.Work.{Mem, mem, Ended, Whole, loaded, saved, kept, opsMost, slotsMost}
-use Rattle.builder_table.specs.Steps.{withRoom, inArena, wireIn, plusIn, scaledIn, oneMinusIn, fullBuilder, fullIn, pushIn}
-use Rattle.builder_laws.specs.Table.{OpsAt, OpsAre, Ops, Stands, Gives, Grown, Lasts}
+use Rattle.builder_table.specs.Work.{Mem, Ended, Whole, loaded, saved, kept, opsMost, slotsMost}
+use Rattle.builder_table.specs.Steps.{inArena, wireIn, plusIn, scaledIn, oneMinusIn, fullBuilder, fullIn, pushIn}
+use Rattle.builder_laws.specs.Table.{OpsAt, Ops, Stands, Gives, Grown, Lasts}
 
 -- ---- followed one after the other
 

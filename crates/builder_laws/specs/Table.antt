@@ -1,5 +1,5 @@
 -- What the lent memory stands for, and how operations are followed by whoever calls them: which ops the table holds, that what stands below stays, and
--- how much room is enough. Definitions only.
+-- how much room is enough. Inner: the shape of the code; nobody need believe it.
 use Prim.Native.Nat.{ℕ, _+_, _*_, _≤_, _<_}
 use mathlib.Core.Path.{_≡_}
 use mathlib.Core.List.{List, [], _∷_}

@@ -1,1 +1,1 @@
-// Laws only: how work on the table is followed.
+// Definitions and laws alone: what each operation of table and builder leaves, the op that it makes, and the room that it needs.

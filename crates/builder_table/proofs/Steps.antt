@@ -1,7 +1,7 @@
--- From what the arena's operations ensure to the equations on all that is lent. Assumes nothing.
+-- From what the arena's operations ensure to the equations on all that is lent.
 use Prim.Native.Nat.{ℕ, _+_, _*_, _≤_, _<_}
 use borrow.Author.Tests.{le-leb, lt-leb}
-use mathlib.Core.Path.{_≡_, refl, sym, ap, _∙_}
+use mathlib.Core.Path.{_≡_, ap, _∙_}
 use mathlib.Core.List.{List}
 use lib.Ieee.{Float}
 use Rattle.wire.specs.declared.Form.{Form}

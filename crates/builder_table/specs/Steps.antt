@@ -1,6 +1,5 @@
--- The operations of the arena, and the making of an op, on all that is lent. Definitions only.
+-- The operations of the arena, and the making of an op, on all that is lent. Inner: the shape of the code; nobody need believe it.
 use Prim.Native.Nat.{ℕ, _+_, _*_}
-use mathlib.Core.List.{List}
 use mathlib.Core.Bool.{false, cond}
 use lib.Dec.{leb}
 use lib.Ieee.{Float}

@@ -1,7 +1,6 @@
 -- What is lent to building, and what an operation leaves of it: the arena's two pools, and a table of forms, whose slot k is two numbers and a bias.
--- Definitions only.
-use Prim.Native.Nat.{ℕ, _+_, _*_, _≤_, _<_}
-use mathlib.Core.Path.{_≡_}
+-- Inner: the shape of the code; nobody need believe it.
+use Prim.Native.Nat.{ℕ, _+_, _*_, _≤_}
 use mathlib.Core.List.{List}
 use lib.ListN.{length, getD, set}
 use lib.Ieee.{Float, nan}

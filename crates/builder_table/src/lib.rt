@@ -5,9 +5,9 @@ use index::Wire;
 use wire::Form;
 ghost use mathlib.Core.Path.{_≡_};
 ghost use mathlib.Core.List.{List};
-ghost use Prim.Native.Nat.{ℕ, _+_, _*_, _<_};
+ghost use Prim.Native.Nat.{ℕ, _<_};
 ghost use lib.Ieee.{Float};
-ghost use Rattle.builder_table.specs.Work.{slotsMost, opsMost, Whole, slot, savedNums, savedBiases, mem, ended};
+ghost use Rattle.builder_table.specs.Work.{slotsMost, Whole, slot, savedNums, savedBiases, mem, ended};
 ghost use Rattle.builder_table.specs.Steps.{wireIn, plusIn, scaledIn, oneMinusIn, pushIn, fullForm, fullBuilder};
 
 // The map of the table: rows of 128 slots, each for one sort of form, then the ops.

@@ -1,4 +1,4 @@
--- An encoded circuit reads back: forms, ops and lists, each where the layout has it. Assumes nothing.
+-- An encoded circuit reads back: forms, ops and lists, each where the layout has it.
 use mathlib.Core.Path.{_≡_, refl, sym, _∙_, ap}
 use mathlib.Core.List.{List, [], _∷_, _++_, append-nil}
 use Prim.Native.Nat.{ℕ, zero, suc, _+_, _*_, _≤_, _<_}
@@ -17,7 +17,7 @@ use Rattle.wire.proofs.Stored.{circuit-is}
 use Rattle.arena_terms.specs.Steps.{wiresIn, coefsIn}
 use Rattle.construct.specs.Circuit.{Circuit, opForms, formsOf}
 use Rattle.compile.specs.Encode.{size, outputsIn, termsOfAll, ranges, opNums, biasesOf, Lists, listNums, numsOf, biasesIn, wiresOf, coefsOf}
-use Rattle.compile_laws.specs.Encoded.{opIn, meant, Fits}
+use Rattle.compile_laws.proofs.Encoded.{opIn, meant, Fits}
 use Rattle.lists.proofs.Sets.{sets-before, sets-after, sets-at, sets-first, map-at}
 use Rattle.compile_laws.proofs.Places.{noForm, noOp, startOf, range-at, ranges-length, op-nums-at, op-nums-length, op-forms-length, op-forms-at, terms-append, start-inside, terms-at}
 

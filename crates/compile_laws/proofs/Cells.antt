@@ -1,4 +1,4 @@
--- The input cells of a tree's state and row, as whole numbers. Assumes nothing.
+-- The input cells of a tree's state and row, as whole numbers.
 use mathlib.Core.Path.{_≡_, refl, sym, _∙_, ap}
 use mathlib.Core.Bool.{Bool, true, false}
 use mathlib.Core.List.{List, [], _∷_, _++_}
@@ -13,11 +13,11 @@ use Rattle.lists.specs.Each.{each}
 use Rattle.lists.proofs.Entries.{each-length, each-getD}
 use Rattle.construct.specs.Value.{cell}
 use Rattle.walk.specs.Kind.{bit}
-use Rattle.walk.specs.Lists.{All}
+use Rattle.lists.specs.Every.{All}
 use Rattle.walk.specs.Status.{Status, isS, isF, isR, statusOf}
 use Rattle.walk.specs.Walk.{isRunning, asRead, cellsIn, slotsIn}
 use Rattle.walk.proofs.Laws.{read-low}
-use Rattle.walk.proofs.Lists.{all-append}
+use Rattle.lists.proofs.Every.{all-append}
 use Rattle.construct_means.specs.Means.{Loaded}
 
 -- three cells of a leaf, and those of n leaves

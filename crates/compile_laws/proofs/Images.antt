@@ -1,15 +1,15 @@
--- The forms of a circuit with f32 coefficients are those of the circuit with whole ones, in the same places; facts of every form, by index. Assumes nothing.
+-- The forms of a circuit with f32 coefficients are those of the circuit with whole ones, in the same places; facts of every form, by index.
 use mathlib.Core.Path.{_≡_, refl, sym, _∙_, ap}
 use mathlib.Core.List.{List, [], _∷_, _++_, map, map-append}
 use Prim.Native.Nat.{ℕ, zero, suc, _+_, _<_}
 use native.Mathlib.Omega.{arith}
 use lib.ListN.{length, getD}
-use Rattle.walk.specs.Lists.{All}
+use Rattle.lists.specs.Every.{All}
 use Rattle.construct.specs.Builder as B
 use Rattle.construct.specs.Circuit.{Circuit, Output, formsOf, opForms, outputForms}
 use Rattle.construct.specs.Pairs.{Form, Op}
 use Rattle.construct.specs.Scope.{Reads, InOrder}
-use Rattle.construct_instances.specs.Respects.{ofOp, ofOutput, ofCircuit}
+use Rattle.construct_instances.proofs.Respects.{ofOp, ofOutput, ofCircuit}
 
 module _ {F G : Type 0} (of : F → G) where
   op-images : (os : List (B.Op F)) → opForms (map (ofOp of) os) ≡ map of (opForms os)
@@ -21,7 +21,7 @@ module _ {F G : Type 0} (of : F → G) where
   unfolding outputForms
   output-images [] = refl
   output-images (x ∷ xs) =
-      ap (λ (l : List G). of (x .status .s) ∷ of (x .status .f) ∷ of (x .status .r) ∷ of (x .reached) ∷ of (x .halted) ∷ of (x .running) ∷ l) (output-images xs)
+      ap (λ (l : List G). of (x .status .success) ∷ of (x .status .failure) ∷ of (x .status .running) ∷ of (x .reached) ∷ of (x .halted) ∷ of (x .running) ∷ l) (output-images xs)
 
   pub outs-images : (c : Circuit F) → outputForms (ofCircuit of c .outputs) ++ ofCircuit of c .cursors ≡ map of (outputForms (c .outputs) ++ c .cursors)
   outs-images c =

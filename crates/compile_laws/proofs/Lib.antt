@@ -1,5 +1,7 @@
 pub mod Back
 pub mod Cells
+pub mod Compiles
+pub mod Encoded
 pub mod Images
 pub mod Passes
 pub mod Places

@@ -1,4 +1,4 @@
--- What compile leaves of a tree passes the check of a circuit. Assumes nothing.
+-- What compile leaves of a tree passes the check of a circuit.
 use mathlib.Core.Path.{_≡_, refl, sym, _∙_, ap}
 use mathlib.Core.Bool.{Bool, true, false, not, _&&_}
 use mathlib.Core.List.{List, [], _∷_, _++_, map}
@@ -24,8 +24,8 @@ use Rattle.wire.specs.Storage as W
 use Rattle.lists.proofs.Tests.{both}
 use Rattle.lists.proofs.Entries.{each-getD}
 use Rattle.wire.proofs.Stored.{holds}
-use Rattle.walk.specs.Lists.{All}
-use Rattle.walk.proofs.Lists.{all-append}
+use Rattle.lists.specs.Every.{All}
+use Rattle.lists.proofs.Every.{all-append}
 use Rattle.construct.specs.Builder as B
 use Rattle.construct.specs.Circuit.{Circuit, flats, formsOf, opForms, outputForms, inputs}
 use Rattle.construct.specs.Pairs as Z
@@ -36,19 +36,19 @@ use Rattle.construct_sizes.specs.Exact.{Small, Coefs}
 use Rattle.construct_sizes.proofs.Tree.{tree-modest}
 use Rattle.construct_means.specs.Means.{circuitOf}
 use Rattle.construct_means.proofs.Sizes.{sizes}
-use Rattle.construct_instances.specs.Respects.{ofOp}
-use Rattle.construct_faithful.specs.Float.{float, floatTerm, floatTerms}
+use Rattle.construct_instances.proofs.Respects.{ofOp}
+use Rattle.construct_faithful.proofs.Float.{float, floatTerm, floatTerms}
 use Rattle.compile.specs.Encode.{Lists, outputsIn, termsOfAll}
 use Rattle.compile.specs.Compile.{Lent, listsOf}
 use Rattle.tick_check.specs.Check.{Stored, inside, readsBelow, wiresRise, biasSmall, circuitOk, risesBelow, eachOnce, kindKnown, countsLent}
 use Rattle.tick_check.specs.Parts.{sizesOk, formOk, opOk, outOk, coefsOk, listsOk, contentsOk}
 use Rattle.tick_check.proofs.All.{all-from}
 use Rattle.tick_check.proofs.Whole.{sizes-5, circuit-is}
-use Rattle.compile_laws.specs.Encoded.{Fits}
+use Rattle.compile_laws.proofs.Encoded.{Fits}
 use Rattle.lists.proofs.Sets.{map-at}
 use Rattle.compile_laws.proofs.Places.{noForm, noOp}
 use Rattle.compile_laws.proofs.Back as back
-use Rattle.compile_laws.specs.Compiles.{treeCircuit, storedOf, Slots}
+use Rattle.compile_laws.proofs.Compiles.{treeCircuit, storedOf, Slots}
 use Rattle.tree.proofs.Lengths.{preorder-length, counts-length}
 use Rattle.plan_laws.proofs.Nodes.{leaves-are, cursors-are, leaves-few, cursors-few, leaves-count, cursors-count}
 use Rattle.construct_faithful.proofs.Tree.{all-first}

@@ -1,4 +1,4 @@
--- Where each form of a list lies, if the terms of all of them stand one form after the other. Assumes nothing.
+-- Where each form of a list lies, if the terms of all of them stand one form after the other.
 use mathlib.Core.Path.{_≡_, refl, sym, _∙_, ap}
 use mathlib.Core.List.{List, [], _∷_, _++_, append-assoc}
 use Prim.Native.Nat.{ℕ, zero, suc, _+_, _*_, _≤_, _<_}

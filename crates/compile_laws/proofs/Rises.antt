@@ -1,4 +1,4 @@
--- The tests of rising lists and of a report, from what their lists are known to be. Assumes nothing.
+-- The tests of rising lists and of a report, from what their lists are known to be.
 use mathlib.Core.Path.{_≡_, refl, sym, _∙_, ap}
 use mathlib.Core.Bool.{Bool, true, false, cond}
 use mathlib.Core.List.{List, [], _∷_}

@@ -1,4 +1,4 @@
--- The lists and forms of a tree's circuit are as many as its counts say, and fit into the layout. Assumes nothing.
+-- The lists and forms of a tree's circuit are as many as its counts say, and fit into the layout.
 use mathlib.Core.Path.{_≡_, refl, sym, _∙_, ap}
 use mathlib.Core.List.{List, [], _∷_}
 use Prim.Native.Nat.{ℕ, suc, _+_, _*_}
@@ -7,7 +7,7 @@ use lib.ListN.{length, length-append, length-map}
 use Rattle.tree.specs.Forest.{Forest, preorder, counts, size}
 use Rattle.tree.specs.Bytes.{Within}
 use Rattle.wire.specs.Terms.{Affine}
-use Rattle.walk.specs.Lists.{All2, both, none}
+use Rattle.lists.specs.Every.{All2, both, none}
 use Rattle.walk.specs.Walk.{fatesOf, walk, answerOf, cellsIn, status}
 use Rattle.walk.proofs.Laws.{lengths}
 use Rattle.construct.specs.Circuit.{Circuit, Output, flats, formsOf, outputForms, termsIn}
@@ -15,13 +15,13 @@ use Rattle.construct_floats.specs.Floats.{floats}
 use Rattle.construct_means.specs.Means.{circuitOf}
 use Rattle.construct_means.proofs.Circuit.{circuit-means}
 use Rattle.construct_means.proofs.Sizes.{sizes}
-use Rattle.construct_instances.specs.Respects.{ofCircuit, ofOutput}
-use Rattle.construct_faithful.specs.Float.{float}
+use Rattle.construct_instances.proofs.Respects.{ofCircuit, ofOutput}
+use Rattle.construct_faithful.proofs.Float.{float}
 use Rattle.construct_faithful.proofs.Tree.{same-floats}
 use Rattle.compile.specs.Encode.{outputsIn, termsOfAll}
 use Rattle.compile.specs.Compile.{Lent, listsOf, countsOf}
-use Rattle.compile_laws.specs.Encoded.{Fits}
-use Rattle.compile_laws.specs.Compiles.{treeCircuit, Slots}
+use Rattle.compile_laws.proofs.Encoded.{Fits}
+use Rattle.compile_laws.proofs.Compiles.{treeCircuit, Slots}
 use Rattle.tree.proofs.Lengths.{preorder-length}
 use Rattle.plan_laws.proofs.Nodes.{shaped, leaves-count, cursors-count, report-count, leaves-few, cursors-few}
 use Rattle.compile_laws.proofs.Cells.{cellsFor, cells-loaded}

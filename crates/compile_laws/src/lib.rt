@@ -1,1 +1,1 @@
-// What compile leaves in storage reads back as the circuit that it encodes: laws only, see specs/ and proofs/.
+// Definitions and laws alone: what compile leaves reads back as the circuit that it encodes, and passes the check for 17.

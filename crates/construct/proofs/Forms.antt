@@ -8,10 +8,10 @@ use Rattle.construct.proofs.Scope.{Wf, reads-up}
 use Rattle.construct.proofs.Scoped.{circuit-made}
 use Rattle.construct.specs.Circuit.{build, construct, formsOf, inputs, opForms, outputForms, outputsOf}
 use Rattle.construct.specs.Lower.{Flat}
-use Rattle.construct.specs.Pairs.{Form, NOut, Op, pairs}
+use Rattle.construct.specs.Pairs.{Form, NodeReach, Op, pairs}
 use Rattle.construct.specs.Scope.{InOrder, Reads, Scoped}
-use Rattle.walk.proofs.Lists.{all-append, all-map}
-use Rattle.walk.specs.Lists.{All}
+use Rattle.lists.proofs.Every.{all-append, all-map}
+use Rattle.lists.specs.Every.{All}
 
 -- from ops newest first to ops in order
 module _ (R : Form → Type 0) where
@@ -20,7 +20,7 @@ module _ (R : Form → Type 0) where
   ops-onto [] ps h k = k
   ops-onto (o ∷ os) ps h k = ops-onto os (o ∷ ps) (h .1 .1) (h .0, (h .1 .0, k))
 
-  outputs-have : (xs : List NOut) (fs : List Form) → All (λ (x : NOut). R (x .raw .s) × R (x .raw .f) × R (x .raw .r) × R (x .reached) × R (x .halted)) xs → All R fs → All R (outputForms (outputsOf xs fs))
+  outputs-have : (xs : List NodeReach) (fs : List Form) → All (λ (x : NodeReach). R (x .raw .success) × R (x .raw .failure) × R (x .raw .running) × R (x .reached) × R (x .halted)) xs → All R fs → All R (outputForms (outputsOf xs fs))
   unfolding outputForms
   outputs-have [] fs h k = tt
   outputs-have (x ∷ xs) [] h k = tt
@@ -28,14 +28,14 @@ module _ (R : Form → Type 0) where
 
   -- a fact of every form that the passes leave is one of every form of the circuit
   pub forms-have : (ns : List Flat) → All R (opForms (build pairs ns .running .ops))
-      → All (λ (x : NOut). R (x .raw .s) × R (x .raw .f) × R (x .raw .r) × R (x .reached) × R (x .halted)) (build pairs ns .pass .outs)
-      → All R (build pairs ns .running .items) → All R (build pairs ns .pass .curs) → All R (formsOf (construct pairs ns))
+      → All (λ (x : NodeReach). R (x .raw .success) × R (x .raw .failure) × R (x .raw .running) × R (x .reached) × R (x .halted)) (build pairs ns .pass .outs)
+      → All R (build pairs ns .running .items) → All R (build pairs ns .pass .cursors) → All R (formsOf (construct pairs ns))
   unfolding construct opForms
   forms-have ns os xs fs cs =
       let b = build pairs ns in
-      all-append R (opForms (reverse (b .running .ops))) (outputForms (outputsOf (b .pass .outs) (b .running .items)) ++ b .pass .curs)
+      all-append R (opForms (reverse (b .running .ops))) (outputForms (outputsOf (b .pass .outs) (b .running .items)) ++ b .pass .cursors)
       (ops-onto (b .running .ops) [] os tt)
-      (all-append R (outputForms (outputsOf (b .pass .outs) (b .running .items))) (b .pass .curs) (outputs-have (b .pass .outs) (b .running .items) xs fs) cs)
+      (all-append R (outputForms (outputsOf (b .pass .outs) (b .running .items))) (b .pass .cursors) (outputs-have (b .pass .outs) (b .running .items) xs fs) cs)
 
 -- ---- scope
 
@@ -64,11 +64,11 @@ pub circuit-scoped : (ns : List Flat) → Scoped (inputs ns) (construct pairs ns
 unfolding construct
 circuit-scoped ns =
     let h = circuit-made ns in
-    let n0 = inputs ns in
+    let opsAt = inputs ns in
     let os = build pairs ns .running .ops in
-    let m : n0 + length os ≡ n0 + length (reverse os) = ap (λ (k : ℕ). n0 + k) (sym (length-reverse os)) in
+    let m : opsAt + length os ≡ opsAt + length (reverse os) = ap (λ (k : ℕ). opsAt + k) (sym (length-reverse os)) in
     record {
-      ops = in-order n0 os (h .wf);
-      forms = rw m at (forms-have (Reads (n0 + length os)) ns (ops-read n0 os (n0 + length os) (omega arith) (h .wf))
-          (all-map (λ x k. (k .raw .s, k .raw .f, k .raw .r, k .reached, k .halted)) (build pairs ns .pass .outs) (h .outs)) (h .running) (h .curs));
+      ops = in-order opsAt os (h .wf);
+      forms = rw m at (forms-have (Reads (opsAt + length os)) ns (ops-read opsAt os (opsAt + length os) (omega arith) (h .wf))
+          (all-map (λ x k. (k .raw .success, k .raw .failure, k .raw .running, k .reached, k .halted)) (build pairs ns .pass .outs) (h .outs)) (h .running) (h .cursors));
     }

@@ -48,14 +48,14 @@ pub record Sem : Type 0 where
   pub node : Flat
   pub raw : Status
   pub kids : List Mark
-  pub cur : ℕ
+  pub cursor : ℕ
 
 pub record Would : Type 0 where
   pub stack : List Status
   pub sems : List Sem
 
 abbrev pub plainS : Flat → Status → List Status → Would → Would
-plainS n t ts u = record { stack = t ∷ ts; sems = record { node = n; raw = t; kids = []; cur = 0 } ∷ u .sems }
+plainS n t ts u = record { stack = t ∷ ts; sems = record { node = n; raw = t; kids = []; cursor = 0 } ∷ u .sems }
 
 module _ (leaves : ℕ → Status) (cursors : ℕ → ℕ) where
   abbrev pub startAt : Bool → ℕ → ℕ
@@ -70,7 +70,7 @@ module _ (leaves : ℕ → Status) (cursors : ℕ → ℕ) where
   wouldStep (ordered m q n) s c u =
       let ss = turned q (take n (u .stack)) in
       let t = turn q (walked (startAt m c) 0 ss) in
-      record { stack = t ∷ drop n (u .stack); sems = record { node = ordered m q n; raw = t; kids = marks (startAt m c) 0 true ss; cur = resumed (startAt m c) 0 ss } ∷ u .sems }
+      record { stack = t ∷ drop n (u .stack); sems = record { node = ordered m q n; raw = t; kids = marks (startAt m c) 0 true ss; cursor = resumed (startAt m c) 0 ss } ∷ u .sems }
 
   unfoldable pub woulds : ℕ → ℕ → List Flat → Would
   woulds s c [] = record { stack = []; sems = [] }
@@ -85,7 +85,7 @@ pub record Lot : Type 0 where
 
 pub record Lots : Type 0 where
   pub outs : List Lot
-  pub curs : List ℕ
+  pub cursors : List ℕ
 
 unfoldable pub calls : Bool → Bool → List Mark → List Call
 calls t h [] = []
@@ -115,12 +115,12 @@ abbrev pub idle : Call
 idle = record { ticked = false; called = false }
 
 unfoldable pub lots : (ℕ → Bool) → (ℕ → ℕ) → ℕ → ℕ → List Sem → List Call → Lots
-lots fl cu i c [] st = record { outs = []; curs = [] }
+lots fl cu i c [] st = record { outs = []; cursors = [] }
 lots fl cu i c (x ∷ xs) st =
     let e = top idle st in
     let h = e .called && fl i in
     let rest = lots fl cu (suc i) (cellAfter (x .node) c) xs (tell (x .node) (e .ticked) h (x .kids) ++ drop 1 st) in
     record {
       outs = record { raw = x .raw; ticked = e .ticked; halted = h; flag = fl i } ∷ rest .outs;
-      curs = nextC (x .node) (e .ticked) h (x .cur) (cu c) ++ rest .curs;
+      cursors = nextC (x .node) (e .ticked) h (x .cursor) (cu c) ++ rest .cursors;
     }

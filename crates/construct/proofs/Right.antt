@@ -14,9 +14,9 @@ use Rattle.construct.proofs.Values.{constant-val, wire-val}
 use Rattle.construct.specs.Circuit.{build, cellEnd, cellsN, cellsNC, inputs, root, slotEnd}
 use Rattle.construct.specs.Lower.{Flat, cellAfter, down, fixed, force, invert, leaf, leafT, ordered, slotAfter, up}
 use Rattle.construct.specs.Pairs.{Op, pairs}
-use Rattle.construct.specs.Value.{Bit, TripIs}
+use Rattle.construct.specs.Value.{Bit, BitsAre}
 use Rattle.walk.specs.Kind.{bit}
-use Rattle.walk.specs.Lists.{All2, both, none}
+use Rattle.lists.specs.Every.{All2, both, none}
 use Rattle.walk.specs.Status.{Status, isF, isR, isS}
 
 -- an input state, and the cells that hold it
@@ -63,7 +63,7 @@ module _ (ns : List Flat) where
     pub pass : DownIs ρ (build pairs ns .pass) (listWalk ns x)
     pub running : All2 (λ f y. Bit ρ f (nextF y)) (build pairs ns .running .items) (listWalk ns x .outs)
 
-  pub leaf-held : (ρ : ℕ → ℕ) (x : State) → Holds ns ρ x → (s : ℕ) → s < slotEnd 0 ns → TripIs ρ (leafT pairs (inputs ns) (cellsN ns) (cellsNC ns) s) (x .leafs s)
+  pub leaf-held : (ρ : ℕ → ℕ) (x : State) → Holds ns ρ x → (s : ℕ) → s < slotEnd 0 ns → BitsAre ρ (leafT pairs (inputs ns) (cellsN ns) (cellsNC ns) s) (x .leafs s)
   leaf-held ρ x h s l = record {
     is-s = rw (h .leaf-s s l) at (wire-val ρ (cellsNC ns + 3 * s));
     is-f = rw (h .leaf-f s l) at (wire-val ρ (cellsNC ns + 3 * s + 1));
@@ -74,18 +74,18 @@ module _ (ns : List Flat) where
   pub sat-right : (ρ : ℕ → ℕ) (x : State) → Holds ns ρ x → Sat (inputs ns) ρ (build pairs ns .running .ops) → Right ρ x
   unfolding build listWalk
   sat-right ρ x h s =
-      let n0 = inputs ns in
-      let nN = cellsN ns in
-      let u = up pairs n0 nN (cellsNC ns) 0 0 ns in
-      let d = down pairs n0 nN 0 0 (u .infos) (root pairs ∷ []) (u .ops) in
-      let s₂ : Sat n0 ρ (d .ops) = back n0 ρ (flags-grows n0 nN (d .outs) (d .ops)) s in
-      let s₁ : Sat n0 ρ (u .ops) = back n0 ρ (down-grows n0 nN 0 0 (u .infos) (root pairs ∷ []) (u .ops)) s₂ in
-      let cs : Cells ρ n0 nN (cellsNC ns) (x .leafs) (x .cursor) (cellEnd 0 ns) (slotEnd 0 ns) = record { leaf = leaf-held ρ x h; cursor = h .cursor } in
-      let hu : UpIs ρ u (woulds (x .leafs) (x .cursor) 0 0 ns) = up-is ρ n0 nN (cellsNC ns) (x .leafs) (x .cursor) (cellEnd 0 ns) (slotEnd 0 ns) cs 0 0 ns (omega arith) (omega arith) s₁ in
+      let opsAt = inputs ns in
+      let cursorsAt = cellsN ns in
+      let u = up pairs opsAt cursorsAt (cellsNC ns) 0 0 ns in
+      let d = down pairs opsAt cursorsAt 0 0 (u .arbitrations) (root pairs ∷ []) (u .ops) in
+      let s₂ : Sat opsAt ρ (d .ops) = back opsAt ρ (flags-grows opsAt cursorsAt (d .outs) (d .ops)) s in
+      let s₁ : Sat opsAt ρ (u .ops) = back opsAt ρ (down-grows opsAt cursorsAt 0 0 (u .arbitrations) (root pairs ∷ []) (u .ops)) s₂ in
+      let cs : Cells ρ opsAt cursorsAt (cellsNC ns) (x .leafs) (x .cursor) (cellEnd 0 ns) (slotEnd 0 ns) = record { leaf = leaf-held ρ x h; cursor = h .cursor } in
+      let hu : UpIs ρ u (woulds (x .leafs) (x .cursor) 0 0 ns) = up-is ρ opsAt cursorsAt (cellsNC ns) (x .leafs) (x .cursor) (cellEnd 0 ns) (slotEnd 0 ns) cs 0 0 ns (omega arith) (omega arith) s₁ in
       let k = would-nodes (x .leafs) (x .cursor) 0 0 0 ns in
       let hr : EntryIs ρ (root pairs) (record { ticked = true; called = false }) = record { reached = constant-val ρ 1; called = constant-val ρ 0 } in
-      let hd = down-is n0 nN ρ (x .flag) (x .cursor) (length ns) (cellEnd 0 ns) (h .flag) (h .cursor) 0 0 (u .ops) (omega (arith, k .0)) (omega (arith, k .1)) (hu .infos) (both hr none) s₂ in
-      record { pass = hd; running = flags-are n0 nN ρ (d .ops) (hd .outs) s }
+      let hd = down-is opsAt cursorsAt ρ (x .flag) (x .cursor) (length ns) (cellEnd 0 ns) (h .flag) (h .cursor) 0 0 (u .ops) (omega (arith, k .0)) (omega (arith, k .1)) (hu .arbitrations) (both hr none) s₂ in
+      record { pass = hd; running = flags-are opsAt cursorsAt ρ (d .ops) (hd .outs) s }
 
   pub eval-holds : (ι : ℕ → ℕ) (x : State) → Holds ns ι x → Holds ns (eval (inputs ns) ι (build pairs ns .running .ops)) x
   eval-holds ι x h = record {

@@ -117,120 +117,120 @@ reads-up n m f h b = below-up n m (f .terms) h b
 
 -- every op reads wires before its own
 abbrev pub Wf : ℕ → List Op → Type 0
-Wf n0 [] = Unit {0}
-Wf n0 (o ∷ os) = Reads (n0 + length os) (o .left) × Reads (n0 + length os) (o .gate) × Wf n0 os
+Wf opsAt [] = Unit {0}
+Wf opsAt (o ∷ os) = Reads (opsAt + length os) (o .left) × Reads (opsAt + length os) (o .gate) × Wf opsAt os
 
 pub grows-length : {a b : List Op} → Grows a b → length a ≤ length b
 grows-length same = omega arith
 grows-length (more p) = omega (arith, grows-length p)
 
 -- what a builder function gives: a well-formed list, and a form that reads what the list has made
-pub record Made (n0 : ℕ) (o : Out) : Type 0 where
-  pub wf : Wf n0 (o .ops)
-  pub reads : Reads (n0 + length (o .ops)) (o .form)
+pub record Made (opsAt : ℕ) (o : Out) : Type 0 where
+  pub wf : Wf opsAt (o .ops)
+  pub reads : Reads (opsAt + length (o .ops)) (o .form)
 
-module _ (n0 : ℕ) where
+module _ (opsAt : ℕ) where
   abbrev pub In : List Op → Form → Type 0
-  In os f = Reads (n0 + length os) f
+  In os f = Reads (opsAt + length os) f
 
   pub in-up : {a b : List Op} (f : Form) → Grows a b → In a f → In b f
-  in-up {a} {b} f p h = reads-up (n0 + length a) (n0 + length b) f (omega (arith, grows-length p)) h
+  in-up {a} {b} f p h = reads-up (opsAt + length a) (opsAt + length b) f (omega (arith, grows-length p)) h
 
-  pub push-made : (f g : Form) (os : List Op) → Wf n0 os → In os f → In os g → Made n0 (push pairs n0 f g os)
+  pub push-made : (f g : Form) (os : List Op) → Wf opsAt os → In os f → In os g → Made opsAt (push pairs opsAt f g os)
   unfolding push
-  push-made f g os w h k = record { wf = (h, k, w); reads = wire-reads (n0 + suc (length os)) (n0 + length os) (omega arith) }
+  push-made f g os w h k = record { wf = (h, k, w); reads = wire-reads (opsAt + suc (length os)) (opsAt + length os) (omega arith) }
 
-  pub relu-made : (f : Form) (os : List Op) → Wf n0 os → In os f → Made n0 (relu pairs n0 f os)
+  pub relu-made : (f : Form) (os : List Op) → Wf opsAt os → In os f → Made opsAt (relu pairs opsAt f os)
   unfolding relu
-  relu-made f os w h = push-made (constant 1) f os w (constant-reads (n0 + length os) 1) h
+  relu-made f os w h = push-made (constant 1) f os w (constant-reads (opsAt + length os) 1) h
 
-  isZero-made-at : (t : Known) (c : Form) (os : List Op) → Wf n0 os → In os c → Made n0 (isZeroAt pairs n0 t c os)
+  isZero-made-at : (t : Known) (c : Form) (os : List Op) → Wf opsAt os → In os c → Made opsAt (isZeroAt pairs opsAt t c os)
   unfolding isZeroAt
-  isZero-made-at No c os w h = record { wf = w; reads = constant-reads (n0 + length os) 1 }
-  isZero-made-at Yes c os w h = record { wf = w; reads = constant-reads (n0 + length os) 0 }
-  isZero-made-at Open c os w h = relu-made (offset 1 0 (negate c)) os w (offset-reads (n0 + length os) 1 0 (negate c) (negate-reads (n0 + length os) c h))
+  isZero-made-at No c os w h = record { wf = w; reads = constant-reads (opsAt + length os) 1 }
+  isZero-made-at Yes c os w h = record { wf = w; reads = constant-reads (opsAt + length os) 0 }
+  isZero-made-at Open c os w h = relu-made (offset 1 0 (negate c)) os w (offset-reads (opsAt + length os) 1 0 (negate c) (negate-reads (opsAt + length os) c h))
 
-  pub isZero-made : (c : Form) (os : List Op) → Wf n0 os → In os c → Made n0 (isZero pairs n0 c os)
+  pub isZero-made : (c : Form) (os : List Op) → Wf opsAt os → In os c → Made opsAt (isZero pairs opsAt c os)
   unfolding isZero
   isZero-made c os w h = isZero-made-at (known c) c os w h
 
-  step-made : (c : Form) (k : ℕ) (os : List Op) → Wf n0 os → In os c → Made n0 (step pairs n0 c k os)
+  step-made : (c : Form) (k : ℕ) (os : List Op) → Wf opsAt os → In os c → Made opsAt (step pairs opsAt c k os)
   unfolding step
   step-made c k os w h =
       let f : Form = offset 1 k c in
       let g : Form = offset 0 1 f in
-      let hf : In os f = offset-reads (n0 + length os) 1 k c h in
-      let a : Made n0 (relu pairs n0 f os) = relu-made f os w hf in
-      let hg : In os g = offset-reads (n0 + length os) 0 1 f hf in
-      let b : Made n0 (relu pairs n0 g (relu pairs n0 f os .ops)) = relu-made g (relu pairs n0 f os .ops) (a .wf) (in-up g (relu-grows n0 f os) hg) in
+      let hf : In os f = offset-reads (opsAt + length os) 1 k c h in
+      let a : Made opsAt (relu pairs opsAt f os) = relu-made f os w hf in
+      let hg : In os g = offset-reads (opsAt + length os) 0 1 f hf in
+      let b : Made opsAt (relu pairs opsAt g (relu pairs opsAt f os .ops)) = relu-made g (relu pairs opsAt f os .ops) (a .wf) (in-up g (relu-grows opsAt f os) hg) in
       record {
         wf = b .wf;
-        reads = minus-reads (n0 + length (relu pairs n0 g (relu pairs n0 f os .ops) .ops)) (relu pairs n0 f os .form) (relu pairs n0 g (relu pairs n0 f os .ops) .form)
-            (in-up (relu pairs n0 f os .form) (relu-grows n0 g (relu pairs n0 f os .ops)) (a .reads)) (b .reads);
+        reads = minus-reads (opsAt + length (relu pairs opsAt g (relu pairs opsAt f os .ops) .ops)) (relu pairs opsAt f os .form) (relu pairs opsAt g (relu pairs opsAt f os .ops) .form)
+            (in-up (relu pairs opsAt f os .form) (relu-grows opsAt g (relu pairs opsAt f os .ops)) (a .reads)) (b .reads);
       }
 
-  atLeast-made-at : (t : Known) (c : Form) (k : ℕ) (os : List Op) → Wf n0 os → In os c → Made n0 (atLeastAt pairs n0 t c k os)
+  atLeast-made-at : (t : Known) (c : Form) (k : ℕ) (os : List Op) → Wf opsAt os → In os c → Made opsAt (atLeastAt pairs opsAt t c k os)
   unfolding atLeastAt
-  atLeast-made-at No c k os w h = record { wf = w; reads = constant-reads (n0 + length os) (bit (leb (c .bn + k) (c .bp))) }
-  atLeast-made-at Yes c k os w h = record { wf = w; reads = constant-reads (n0 + length os) (bit (leb (c .bn + k) (c .bp))) }
+  atLeast-made-at No c k os w h = record { wf = w; reads = constant-reads (opsAt + length os) (bit (leb (c .bn + k) (c .bp))) }
+  atLeast-made-at Yes c k os w h = record { wf = w; reads = constant-reads (opsAt + length os) (bit (leb (c .bn + k) (c .bp))) }
   atLeast-made-at Open c k os w h = step-made c k os w h
 
-  pub atLeast-made : (c : Form) (k : ℕ) (os : List Op) → Wf n0 os → In os c → Made n0 (atLeast pairs n0 c k os)
+  pub atLeast-made : (c : Form) (k : ℕ) (os : List Op) → Wf opsAt os → In os c → Made opsAt (atLeast pairs opsAt c k os)
   unfolding atLeast
   atLeast-made c k os w h = atLeast-made-at (known c) c k os w h
 
-  and-made-at : (t u : Known) (f g : Form) (os : List Op) → Wf n0 os → In os f → In os g → Made n0 (andAt pairs n0 t u f g os)
+  and-made-at : (t u : Known) (f g : Form) (os : List Op) → Wf opsAt os → In os f → In os g → Made opsAt (andAt pairs opsAt t u f g os)
   unfolding andAt
   and-made-at Yes u f g os w h k = record { wf = w; reads = k }
   and-made-at No Yes f g os w h k = record { wf = w; reads = h }
-  and-made-at No No f g os w h k = record { wf = w; reads = constant-reads (n0 + length os) 0 }
-  and-made-at No Open f g os w h k = record { wf = w; reads = constant-reads (n0 + length os) 0 }
+  and-made-at No No f g os w h k = record { wf = w; reads = constant-reads (opsAt + length os) 0 }
+  and-made-at No Open f g os w h k = record { wf = w; reads = constant-reads (opsAt + length os) 0 }
   and-made-at Open Yes f g os w h k = record { wf = w; reads = h }
-  and-made-at Open No f g os w h k = record { wf = w; reads = constant-reads (n0 + length os) 0 }
+  and-made-at Open No f g os w h k = record { wf = w; reads = constant-reads (opsAt + length os) 0 }
   and-made-at Open Open f g os w h k = push-made f g os w h k
 
-  pub and-made : (f g : Form) (os : List Op) → Wf n0 os → In os f → In os g → Made n0 (and pairs n0 f g os)
+  pub and-made : (f g : Form) (os : List Op) → Wf opsAt os → In os f → In os g → Made opsAt (and pairs opsAt f g os)
   unfolding and
   and-made f g os w h k = and-made-at (known f) (known g) f g os w h k
 
-  or-made-at : (t u : Known) (f g : Form) (os : List Op) → Wf n0 os → In os f → In os g → Made n0 (orAt pairs n0 t u f g os)
+  or-made-at : (t u : Known) (f g : Form) (os : List Op) → Wf opsAt os → In os f → In os g → Made opsAt (orAt pairs opsAt t u f g os)
   unfolding orAt
-  or-made-at Yes u f g os w h k = record { wf = w; reads = constant-reads (n0 + length os) 1 }
-  or-made-at No Yes f g os w h k = record { wf = w; reads = constant-reads (n0 + length os) 1 }
+  or-made-at Yes u f g os w h k = record { wf = w; reads = constant-reads (opsAt + length os) 1 }
+  or-made-at No Yes f g os w h k = record { wf = w; reads = constant-reads (opsAt + length os) 1 }
   or-made-at No No f g os w h k = record { wf = w; reads = k }
   or-made-at No Open f g os w h k = record { wf = w; reads = k }
-  or-made-at Open Yes f g os w h k = record { wf = w; reads = constant-reads (n0 + length os) 1 }
+  or-made-at Open Yes f g os w h k = record { wf = w; reads = constant-reads (opsAt + length os) 1 }
   or-made-at Open No f g os w h k = record { wf = w; reads = h }
   or-made-at Open Open f g os w h k =
-      let met = and pairs n0 f g os in
+      let met = and pairs opsAt f g os in
       let a = and-made f g os w h k in
-      let m : ℕ = n0 + length (met .ops) in
+      let m : ℕ = opsAt + length (met .ops) in
       record {
         wf = a .wf;
         reads = minus-reads m (plus f g) (met .form)
-            (in-up (plus f g) (and-grows n0 f g os) (plus-reads (n0 + length os) f g h k)) (a .reads);
+            (in-up (plus f g) (and-grows opsAt f g os) (plus-reads (opsAt + length os) f g h k)) (a .reads);
       }
 
-  pub or-made : (f g : Form) (os : List Op) → Wf n0 os → In os f → In os g → Made n0 (or pairs n0 f g os)
+  pub or-made : (f g : Form) (os : List Op) → Wf opsAt os → In os f → In os g → Made opsAt (or pairs opsAt f g os)
   unfolding or
   or-made f g os w h k = or-made-at (known f) (known g) f g os w h k
 
--- evaluation as a function of the wire, ops newest first: the inputs below n0, then a value for each op
+-- evaluation as a function of the wire, ops newest first: the inputs below opsAt, then a value for each op
 unfoldable pub eval : ℕ → (ℕ → ℕ) → List Op → ℕ → ℕ
-eval n0 ι [] w = ι w
-eval n0 ι (o ∷ os) w = cond (eqb w (n0 + length os)) (opVal (eval n0 ι os) o) (eval n0 ι os w)
+eval opsAt ι [] w = ι w
+eval opsAt ι (o ∷ os) w = cond (eqb w (opsAt + length os)) (opVal (eval opsAt ι os) o) (eval opsAt ι os w)
 
-pub eval-input : (n0 : ℕ) (ι : ℕ → ℕ) (w : ℕ) → eval n0 ι [] w ≡ ι w
+pub eval-input : (opsAt : ℕ) (ι : ℕ → ℕ) (w : ℕ) → eval opsAt ι [] w ≡ ι w
 unfolding eval
-eval-input n0 ι w = refl
+eval-input opsAt ι w = refl
 
-pub eval-old : (n0 : ℕ) (ι : ℕ → ℕ) (o : Op) (os : List Op) (w : ℕ) → w < n0 + length os → eval n0 ι (o ∷ os) w ≡ eval n0 ι os w
+pub eval-old : (opsAt : ℕ) (ι : ℕ → ℕ) (o : Op) (os : List Op) (w : ℕ) → w < opsAt + length os → eval opsAt ι (o ∷ os) w ≡ eval opsAt ι os w
 unfolding eval
-eval-old n0 ι o os w h = rw (is-false (eqb w (n0 + length os)) λ t. let e : w ≡ n0 + length os = eqb→eq w (n0 + length os) t in omega arith)
+eval-old opsAt ι o os w h = rw (is-false (eqb w (opsAt + length os)) λ t. let e : w ≡ opsAt + length os = eqb→eq w (opsAt + length os) t in omega arith)
 
-pub eval-new : (n0 : ℕ) (ι : ℕ → ℕ) (o : Op) (os : List Op) → eval n0 ι (o ∷ os) (n0 + length os) ≡ opVal (eval n0 ι os) o
+pub eval-new : (opsAt : ℕ) (ι : ℕ → ℕ) (o : Op) (os : List Op) → eval opsAt ι (o ∷ os) (opsAt + length os) ≡ opVal (eval opsAt ι os) o
 unfolding eval
-eval-new n0 ι o os = rw (is-true (eqb (n0 + length os) (n0 + length os)) (eqb-refl (n0 + length os)))
+eval-new opsAt ι o os = rw (is-true (eqb (opsAt + length os) (opsAt + length os)) (eqb-refl (opsAt + length os)))
 
 abbrev pub Agree : ℕ → (ℕ → ℕ) → (ℕ → ℕ) → Type 0
 Agree n ρ τ = (w : ℕ) → w < n → τ w ≡ ρ w
@@ -249,22 +249,22 @@ pub agree-op : (n : ℕ) (ρ τ : ℕ → ℕ) → Agree n ρ τ → (o : Op) �
 unfolding opVal P N
 agree-op n ρ τ a o l g = rw (agree-P n ρ τ a 0 (o .left .terms) l, agree-N n ρ τ a 0 (o .left .terms) l, agree-P n ρ τ a 0 (o .gate .terms) g, agree-N n ρ τ a 0 (o .gate .terms) g)
 
-pub agree-sat : (n0 : ℕ) (ρ τ : ℕ → ℕ) (os : List Op) → Agree (n0 + length os) ρ τ → Wf n0 os → Sat n0 ρ os → Sat n0 τ os
-agree-sat n0 ρ τ [] a w s = tt
-agree-sat n0 ρ τ (o ∷ os) a w s =
-    let b : Agree (n0 + length os) ρ τ = λ x h. a x (omega arith) in
-    (a (n0 + length os) (omega arith) ∙ s .0 ∙ sym (agree-op (n0 + length os) ρ τ b o (w .0) (w .1)), agree-sat n0 ρ τ os b (w .2) (s .1))
+pub agree-sat : (opsAt : ℕ) (ρ τ : ℕ → ℕ) (os : List Op) → Agree (opsAt + length os) ρ τ → Wf opsAt os → Sat opsAt ρ os → Sat opsAt τ os
+agree-sat opsAt ρ τ [] a w s = tt
+agree-sat opsAt ρ τ (o ∷ os) a w s =
+    let b : Agree (opsAt + length os) ρ τ = λ x h. a x (omega arith) in
+    (a (opsAt + length os) (omega arith) ∙ s .0 ∙ sym (agree-op (opsAt + length os) ρ τ b o (w .0) (w .1)), agree-sat opsAt ρ τ os b (w .2) (s .1))
 
 -- the evaluated table satisfies every op
-pub eval-sat : (n0 : ℕ) (ι : ℕ → ℕ) (os : List Op) → Wf n0 os → Sat n0 (eval n0 ι os) os
-eval-sat n0 ι [] w = tt
-eval-sat n0 ι (o ∷ os) w =
-    let a : Agree (n0 + length os) (eval n0 ι os) (eval n0 ι (o ∷ os)) = eval-old n0 ι o os in (
-      eval-new n0 ι o os ∙ sym (agree-op (n0 + length os) (eval n0 ι os) (eval n0 ι (o ∷ os)) a o (w .0) (w .1)),
-      agree-sat n0 (eval n0 ι os) (eval n0 ι (o ∷ os)) os a (w .2) (eval-sat n0 ι os (w .2)),
+pub eval-sat : (opsAt : ℕ) (ι : ℕ → ℕ) (os : List Op) → Wf opsAt os → Sat opsAt (eval opsAt ι os) os
+eval-sat opsAt ι [] w = tt
+eval-sat opsAt ι (o ∷ os) w =
+    let a : Agree (opsAt + length os) (eval opsAt ι os) (eval opsAt ι (o ∷ os)) = eval-old opsAt ι o os in (
+      eval-new opsAt ι o os ∙ sym (agree-op (opsAt + length os) (eval opsAt ι os) (eval opsAt ι (o ∷ os)) a o (w .0) (w .1)),
+      agree-sat opsAt (eval opsAt ι os) (eval opsAt ι (o ∷ os)) os a (w .2) (eval-sat opsAt ι os (w .2)),
     )
 
 -- earlier values stay
-pub eval-stays : (n0 : ℕ) (ι : ℕ → ℕ) {a b : List Op} → Grows a b → (w : ℕ) → w < n0 + length a → eval n0 ι b w ≡ eval n0 ι a w
-eval-stays n0 ι same w h = refl
-eval-stays n0 ι (more {os′ = os′} {o = o} p) w h = eval-old n0 ι o os′ w (omega (arith, grows-length p)) ∙ eval-stays n0 ι p w h
+pub eval-stays : (opsAt : ℕ) (ι : ℕ → ℕ) {a b : List Op} → Grows a b → (w : ℕ) → w < opsAt + length a → eval opsAt ι b w ≡ eval opsAt ι a w
+eval-stays opsAt ι same w h = refl
+eval-stays opsAt ι (more {os′ = os′} {o = o} p) w h = eval-old opsAt ι o os′ w (omega (arith, grows-length p)) ∙ eval-stays opsAt ι p w h

@@ -32,9 +32,6 @@ run-eval ins [] wf w l = sym (eval-input (length ins) (cell ins) w)
 run-eval ins (o ∷ os) wf w l = go (leb (suc w) (length ins + length os)) (leb→le (suc w) (length ins + length os)) (nleb→lt (suc w) (length ins + length os))
     (run-eval ins os (wf .2))
   where
-    n : ℕ
-    n = length ins + length os
-
     v : ℕ
     v = opVal (cell (run ins os)) o
 

@@ -1,4 +1,4 @@
--- builder.rs. The ops made so far are kept newest first: op k from the start is the value of wire n0 + k, past the n0 input cells.
+-- builder.rs. The ops made so far are kept newest first: op k from the start is the value of wire opsAt + k, past the opsAt input cells.
 use Prim.Native.Nat.{ℕ, _+_}
 use mathlib.Core.List.{List, _∷_}
 use lib.ListN.{length}
@@ -23,10 +23,10 @@ module _ {F : Type 0} (A : Forms F) where
   unfoldable pub minus : F → F → F
   minus f g = A .plus f (A .negate g)
 
-  module _ (n0 : ℕ) where
+  module _ (opsAt : ℕ) where
     -- `push`, and `mask`: the new op's wire
     unfoldable pub push : F → F → List (Op F) → Out F
-    push l g os = record { form = A .wire (n0 + length os); ops = record { left = l; gate = g } ∷ os }
+    push l g os = record { form = A .wire (opsAt + length os); ops = record { left = l; gate = g } ∷ os }
 
     -- `relu`: max(0, form)
     unfoldable pub relu : F → List (Op F) → Out F

@@ -27,7 +27,7 @@ cards =
     ∷ []
 
 unfoldable pub counted : Card → Card
-unfolding kindOf slotEnd cellEnd construct build opForms outputForms termsIn B.not′ B.minus B.push B.relu B.isZeroAt B.isZero B.step B.atLeastAt B.atLeast B.andAt B.and B.orAt B.or L.inverted L.inverteds L.forced L.fixedT L.gates L.clears L.stops L.picks L.total L.lowerSeq L.lower L.upStep L.up L.spread L.childs L.nextCur L.down L.flags P.keep P.insertAt P.insert P.merge P.flip P.times P.constant P.wire′ P.offset P.negate P.plus P.scaled P.empty P.knownAt P.known
+unfolding kindOf slotEnd cellEnd construct build opForms outputForms termsIn B.not′ B.minus B.push B.relu B.isZeroAt B.isZero B.step B.atLeastAt B.atLeast B.andAt B.and B.orAt B.or L.inverted L.inverteds L.forced L.fixedT L.gates L.clears L.stops L.picks L.total L.lowerSeq L.lower L.upStep L.up L.spread L.children L.nextCur L.down L.flags P.keep P.insertAt P.insert P.merge P.flip P.times P.constant P.wire′ P.offset P.negate P.plus P.scaled P.empty P.knownAt P.known
 counted c =
     let ns = flats (c .kinds) (c .counts) in
     let x = construct pairs ns in
@@ -80,7 +80,7 @@ runs =
     ∷ []
 
 unfoldable pub evaluated : Run → Run
-unfolding kindOf slotEnd cellEnd construct build opForms outputForms termsIn B.not′ B.minus B.push B.relu B.isZeroAt B.isZero B.step B.atLeastAt B.atLeast B.andAt B.and B.orAt B.or L.inverted L.inverteds L.forced L.fixedT L.gates L.clears L.stops L.picks L.total L.lowerSeq L.lower L.upStep L.up L.spread L.childs L.nextCur L.down L.flags P.keep P.insertAt P.insert P.merge P.flip P.times P.constant P.wire′ P.offset P.negate P.plus P.scaled P.empty P.knownAt P.known Val.sumP Val.sumN Val.P Val.N Val.opVal Val.tableOf
+unfolding kindOf slotEnd cellEnd construct build opForms outputForms termsIn B.not′ B.minus B.push B.relu B.isZeroAt B.isZero B.step B.atLeastAt B.atLeast B.andAt B.and B.orAt B.or L.inverted L.inverteds L.forced L.fixedT L.gates L.clears L.stops L.picks L.total L.lowerSeq L.lower L.upStep L.up L.spread L.children L.nextCur L.down L.flags P.keep P.insertAt P.insert P.merge P.flip P.times P.constant P.wire′ P.offset P.negate P.plus P.scaled P.empty P.knownAt P.known Val.sumP Val.sumN Val.P Val.N Val.opVal Val.tableOf
 evaluated r =
     let x = construct pairs (flats (r .kinds) (r .counts)) in
     let ρ = Val.cell (Val.tableOf (r .cells) (x .ops)) in

@@ -5,7 +5,7 @@ use lib.ListN.{length}
 use Rattle.walk.specs.Kind.{kindOf}
 use Rattle.construct.specs.Forms.{Forms}
 use Rattle.construct.specs.Builder.{Op}
-use Rattle.construct.specs.Lower.{Flat, flatOf, slotAfter, cellAfter, Trip, Entry, NOut, Down, Many, up, down, flags}
+use Rattle.construct.specs.Lower.{Flat, flatOf, slotAfter, cellAfter, StatusBits, Entry, NodeReach, Down, Many, up, down, flags}
 
 -- the nodes of these kind numbers and child counts
 abbrev pub flats : List ℕ → List ℕ → List Flat
@@ -34,7 +34,7 @@ inputs ns = cellsNC ns + 3 * slotEnd 0 ns
 
 -- what a node puts out: "three statuses, reached, halted, next running per node"
 pub record Output (F : Type 0) : Type 0 where
-  pub status : Trip F
+  pub status : StatusBits F
   pub reached : F
   pub halted : F
   pub running : F
@@ -50,7 +50,7 @@ pub record Built (F : Type 0) : Type 0 where
   pub pass : Down F
   pub running : Many F F
 
-abbrev pub outputsOf : {F : Type 0} → List (NOut F) → List F → List (Output F)
+abbrev pub outputsOf : {F : Type 0} → List (NodeReach F) → List F → List (Output F)
 outputsOf [] fs = []
 outputsOf (x ∷ xs) [] = []
 outputsOf (x ∷ xs) (f ∷ fs) = record { status = x .raw; reached = x .reached; halted = x .halted; running = f } ∷ outputsOf xs fs
@@ -62,15 +62,15 @@ module _ {F : Type 0} (A : Forms F) where
 
   unfoldable pub build : List Flat → Built F
   build ns =
-      let n0 = inputs ns in
-      let u = up A n0 (cellsN ns) (cellsNC ns) 0 0 ns in
-      let d = down A n0 (cellsN ns) 0 0 (u .infos) (root ∷ []) (u .ops) in
-      record { pass = d; running = flags A n0 (cellsN ns) (d .outs) (d .ops) }
+      let opsAt = inputs ns in
+      let u = up A opsAt (cellsN ns) (cellsNC ns) 0 0 ns in
+      let d = down A opsAt (cellsN ns) 0 0 (u .arbitrations) (root ∷ []) (u .ops) in
+      record { pass = d; running = flags A opsAt (cellsN ns) (d .outs) (d .ops) }
 
   unfoldable pub construct : List Flat → Circuit F
   construct ns =
       let b = build ns in
-      record { ops = reverse (b .running .ops); outputs = outputsOf (b .pass .outs) (b .running .items); cursors = b .pass .curs }
+      record { ops = reverse (b .running .ops); outputs = outputsOf (b .pass .outs) (b .running .items); cursors = b .pass .cursors }
 
 -- the circuit's forms in order: "both forms of every op, then .. the output forms (three statuses, reached, halted, next running per node; next
 -- cursor per cell)"
@@ -80,7 +80,7 @@ opForms (o ∷ os) = o .left ∷ o .gate ∷ opForms os
 
 unfoldable pub outputForms : {F : Type 0} → List (Output F) → List F
 outputForms [] = []
-outputForms (x ∷ xs) = x .status .s ∷ x .status .f ∷ x .status .r ∷ x .reached ∷ x .halted ∷ x .running ∷ outputForms xs
+outputForms (x ∷ xs) = x .status .success ∷ x .status .failure ∷ x .status .running ∷ x .reached ∷ x .halted ∷ x .running ∷ outputForms xs
 
 abbrev pub formsOf : {F : Type 0} → Circuit F → List F
 formsOf c = opForms (c .ops) ++ (outputForms (c .outputs) ++ c .cursors)

@@ -42,23 +42,23 @@ cellAfter (ordered true q n) c = suc c
 cellAfter (ordered false q n) c = c
 
 -- `StatusBits`: at most one of three bits
-pub record Trip (F : Type 0) : Type 0 where
-  pub s : F
-  pub f : F
-  pub r : F
+pub record StatusBits (F : Type 0) : Type 0 where
+  pub success : F
+  pub failure : F
+  pub running : F
 
 -- a child of an ordered composite, as the three loops of lower_ordered leave it
-pub record Kid1 (F : Type 0) : Type 0 where
-  pub trip : Trip F
+pub record GatedChild (F : Type 0) : Type 0 where
+  pub status : StatusBits F
   pub before : F
   pub blocked : F
 
-pub record Kid2 (F : Type 0) : Type 0 where
-  pub kid : Kid1 F
+pub record ClearedChild (F : Type 0) : Type 0 where
+  pub child : GatedChild F
   pub clear : F
 
-pub record Kid3 (F : Type 0) : Type 0 where
-  pub trip : Trip F
+pub record ArbitratedChild (F : Type 0) : Type 0 where
+  pub status : StatusBits F
   pub reach : F
   pub stop : F
   pub after-stop : F
@@ -69,28 +69,28 @@ pub record Many (F X : Type 0) : Type 0 where
   pub ops : List (Op F)
 
 pub record Picked (F : Type 0) : Type 0 where
-  pub oth : F
+  pub other : F
   pub run : F
-  pub cur : F
+  pub cursor : F
   pub ops : List (Op F)
 
 -- a status, and `Arbitration`
 pub record Ordered (F : Type 0) : Type 0 where
-  pub status : Trip F
-  pub kids : List (Kid3 F)
-  pub cur : F
+  pub status : StatusBits F
+  pub kids : List (ArbitratedChild F)
+  pub cursor : F
   pub ops : List (Op F)
 
 -- what is kept of a node for the top-down pass
-pub record Info (F : Type 0) : Type 0 where
+pub record Arbitration (F : Type 0) : Type 0 where
   pub node : Flat
-  pub raw : Trip F
-  pub kids : List (Kid3 F)
-  pub cur : F
+  pub raw : StatusBits F
+  pub kids : List (ArbitratedChild F)
+  pub cursor : F
 
 pub record Up (F : Type 0) : Type 0 where
-  pub stack : List (Trip F)
-  pub infos : List (Info F)
+  pub stack : List (StatusBits F)
+  pub arbitrations : List (Arbitration F)
   pub ops : List (Op F)
 
 -- what a node is told by its parent
@@ -98,16 +98,16 @@ pub record Entry (F : Type 0) : Type 0 where
   pub reached : F
   pub called : F
 
-pub record NOut (F : Type 0) : Type 0 where
-  pub raw : Trip F
+pub record NodeReach (F : Type 0) : Type 0 where
+  pub raw : StatusBits F
   pub reached : F
   pub halted : F
   pub was : F
   pub untouched : F
 
 pub record Down (F : Type 0) : Type 0 where
-  pub outs : List (NOut F)
-  pub curs : List F
+  pub outs : List (NodeReach F)
+  pub cursors : List F
   pub ops : List (Op F)
 
 abbrev pub top : {A : Type 0} → A → List A → A
@@ -116,92 +116,92 @@ top d (x ∷ xs) = x
 
 -- ---- status.rs
 
-unfoldable pub inverted : {F : Type 0} → Trip F → Trip F
-inverted t = record { s = t .f; f = t .s; r = t .r }
+unfoldable pub inverted : {F : Type 0} → StatusBits F → StatusBits F
+inverted t = record { success = t .failure; failure = t .success; running = t .running }
 
-unfoldable pub inverteds : {F : Type 0} → List (Trip F) → List (Trip F)
+unfoldable pub inverteds : {F : Type 0} → List (StatusBits F) → List (StatusBits F)
 inverteds [] = []
 inverteds (t ∷ ts) = inverted t ∷ inverteds ts
 
 module _ {F : Type 0} (A : Forms F) where
-  unfoldable pub forced : Bool → Trip F → Trip F
-  forced true t = record { s = A .plus (t .s) (t .f); f = A .constant 0; r = t .r }
-  forced false t = record { s = A .constant 0; f = A .plus (t .s) (t .f); r = t .r }
+  unfoldable pub forced : Bool → StatusBits F → StatusBits F
+  forced true t = record { success = A .plus (t .success) (t .failure); failure = A .constant 0; running = t .running }
+  forced false t = record { success = A .constant 0; failure = A .plus (t .success) (t .failure); running = t .running }
 
-  unfoldable pub fixedT : Bool → Trip F
-  fixedT b = record { s = A .constant (bit b); f = A .constant (bit (not b)); r = A .constant 0 }
+  unfoldable pub fixedT : Bool → StatusBits F
+  fixedT b = record { success = A .constant (bit b); failure = A .constant (bit (not b)); running = A .constant 0 }
 
   -- ---- lower_ordered, for a composite that advances on success
 
-  module _ (n0 : ℕ) where
+  module _ (opsAt : ℕ) where
     -- before_k = [k < cursor]; blocked_k = NOT (before_k OR advance_k)
-    unfoldable pub gates : F → ℕ → List (Trip F) → List (Op F) → Many F (Kid1 F)
+    unfoldable pub gates : F → ℕ → List (StatusBits F) → List (Op F) → Many F (GatedChild F)
     gates c k [] os = record { items = []; ops = os }
     gates c k (t ∷ ts) os =
-        let later = atLeast A n0 c (suc k) os in
-        let pass = or A n0 (later .form) (t .s) (later .ops) in
+        let later = atLeast A opsAt c (suc k) os in
+        let pass = or A opsAt (later .form) (t .success) (later .ops) in
         let rest = gates c (suc k) ts (pass .ops) in
-        record { items = record { trip = t; before = later .form; blocked = not′ A (pass .form) } ∷ rest .items; ops = rest .ops }
+        record { items = record { status = t; before = later .form; blocked = not′ A (pass .form) } ∷ rest .items; ops = rest .ops }
 
     -- none_earlier: clear_k = [the sum of the earlier blocked bits is 0]; that sum is carried
-    unfoldable pub clears : F → List (Kid1 F) → List (Op F) → Many F (Kid2 F)
+    unfoldable pub clears : F → List (GatedChild F) → List (Op F) → Many F (ClearedChild F)
     clears pre [] os = record { items = []; ops = os }
     clears pre (x ∷ xs) os =
-        let z = isZero A n0 pre os in
+        let z = isZero A opsAt pre os in
         let rest = clears (A .plus pre (x .blocked)) xs (z .ops) in
-        record { items = record { kid = x; clear = z .form } ∷ rest .items; ops = rest .ops }
+        record { items = record { child = x; clear = z .form } ∷ rest .items; ops = rest .ops }
 
     -- reach_k = clear_k AND NOT before_k; stop_k = clear_k AND blocked_k; after_stop_k is the sum of the earlier stops
-    unfoldable pub stops : F → List (Kid2 F) → List (Op F) → Many F (Kid3 F)
+    unfoldable pub stops : F → List (ClearedChild F) → List (Op F) → Many F (ArbitratedChild F)
     stops acc [] os = record { items = []; ops = os }
     stops acc (x ∷ xs) os =
-        let r = and A n0 (x .clear) (not′ A (x .kid .before)) os in
-        let s = and A n0 (x .clear) (x .kid .blocked) (r .ops) in
+        let r = and A opsAt (x .clear) (not′ A (x .child .before)) os in
+        let s = and A opsAt (x .clear) (x .child .blocked) (r .ops) in
         let rest = stops (A .plus acc (s .form)) xs (s .ops) in
-        record { items = record { trip = x .kid .trip; reach = r .form; stop = s .form; after-stop = acc } ∷ rest .items; ops = rest .ops }
+        record { items = record { status = x .child .status; reach = r .form; stop = s .form; after-stop = acc } ∷ rest .items; ops = rest .ops }
 
     -- the stop's status, bit by bit, and its position if it is running
-    unfoldable pub picks : ℕ → F → F → F → List (Kid3 F) → List (Op F) → Picked F
-    picks k o r c [] os = record { oth = o; run = r; cur = c; ops = os }
+    unfoldable pub picks : ℕ → F → F → F → List (ArbitratedChild F) → List (Op F) → Picked F
+    picks k o r c [] os = record { other = o; run = r; cursor = c; ops = os }
     picks k o r c (x ∷ xs) os =
-        let a = and A n0 (x .stop) (x .trip .f) os in
-        let b = and A n0 (x .stop) (x .trip .r) (a .ops) in
+        let a = and A opsAt (x .stop) (x .status .failure) os in
+        let b = and A opsAt (x .stop) (x .status .running) (a .ops) in
         picks (suc k) (A .plus o (a .form)) (A .plus r (b .form)) (A .plus c (A .scaled k (b .form))) xs (b .ops)
 
-  unfoldable pub total : F → List (Kid3 F) → F
+  unfoldable pub total : F → List (ArbitratedChild F) → F
   total acc [] = acc
   total acc (x ∷ xs) = total (A .plus acc (x .stop)) xs
 
-  module _ (n0 : ℕ) where
-    unfoldable pub lowerSeq : F → List (Trip F) → List (Op F) → Ordered F
+  module _ (opsAt : ℕ) where
+    unfoldable pub lowerSeq : F → List (StatusBits F) → List (Op F) → Ordered F
     lowerSeq c ts os =
         let z = A .constant 0 in
-        let a = gates n0 c 0 ts os in
-        let b = clears n0 z (a .items) (a .ops) in
-        let d = stops n0 z (b .items) (b .ops) in
-        let e = picks n0 0 z z z (d .items) (d .ops) in
-        record { status = record { s = not′ A (total z (d .items)); f = e .oth; r = e .run }; kids = d .items; cur = e .cur; ops = e .ops }
+        let a = gates opsAt c 0 ts os in
+        let b = clears opsAt z (a .items) (a .ops) in
+        let d = stops opsAt z (b .items) (b .ops) in
+        let e = picks opsAt 0 z z z (d .items) (d .ops) in
+        record { status = record { success = not′ A (total z (d .items)); failure = e .other; running = e .run }; kids = d .items; cursor = e .cursor; ops = e .ops }
 
     -- one that advances on failure is the same with each child and the result inverted, op for op
-    unfoldable pub lower : Bool → F → List (Trip F) → List (Op F) → Ordered F
+    unfoldable pub lower : Bool → F → List (StatusBits F) → List (Op F) → Ordered F
     lower true c ts os = lowerSeq c ts os
     lower false c ts os =
         let o = lowerSeq c (inverteds ts) os in
-        record { status = inverted (o .status); kids = o .kids; cur = o .cur; ops = o .ops }
+        record { status = inverted (o .status); kids = o .kids; cursor = o .cursor; ops = o .ops }
 
   -- ---- arbitrate, bottom-up
 
   -- a node without ops
-  abbrev pub plain : Flat → Trip F → List (Trip F) → Up F → Up F
-  plain n t ts u = record { stack = t ∷ ts; infos = record { node = n; raw = t; kids = []; cur = A .constant 0 } ∷ u .infos; ops = u .ops }
+  abbrev pub plain : Flat → StatusBits F → List (StatusBits F) → Up F → Up F
+  plain n t ts u = record { stack = t ∷ ts; arbitrations = record { node = n; raw = t; kids = []; cursor = A .constant 0 } ∷ u .arbitrations; ops = u .ops }
 
-  -- the cursors' cells begin at nN, the leaves' at nC; slot s has three
-  module _ (n0 nN nC : ℕ) where
-    abbrev pub leafT : ℕ → Trip F
-    leafT s = record { s = A .wire (nC + 3 * s); f = A .wire (nC + 3 * s + 1); r = A .wire (nC + 3 * s + 2) }
+  -- the cursors' cells begin at cursorsAt, the leaves' at leavesAt; slot s has three
+  module _ (opsAt cursorsAt leavesAt : ℕ) where
+    abbrev pub leafT : ℕ → StatusBits F
+    leafT s = record { success = A .wire (leavesAt + 3 * s); failure = A .wire (leavesAt + 3 * s + 1); running = A .wire (leavesAt + 3 * s + 2) }
 
     abbrev pub cursorF : Bool → ℕ → F
-    cursorF true c = A .wire (nN + c)
+    cursorF true c = A .wire (cursorsAt + c)
     cursorF false c = A .constant 0
 
     unfoldable pub upStep : Flat → ℕ → ℕ → Up F → Up F
@@ -210,33 +210,33 @@ module _ {F : Type 0} (A : Forms F) where
     upStep invert s c u = plain invert (inverted (top (fixedT true) (u .stack))) (drop 1 (u .stack)) u
     upStep (force b) s c u = plain (force b) (forced b (top (fixedT true) (u .stack))) (drop 1 (u .stack)) u
     upStep (ordered m q n) s c u =
-        let o = lower n0 q (cursorF m c) (take n (u .stack)) (u .ops) in
-        record { stack = o .status ∷ drop n (u .stack); infos = record { node = ordered m q n; raw = o .status; kids = o .kids; cur = o .cur } ∷ u .infos; ops = o .ops }
+        let o = lower opsAt q (cursorF m c) (take n (u .stack)) (u .ops) in
+        record { stack = o .status ∷ drop n (u .stack); arbitrations = record { node = ordered m q n; raw = o .status; kids = o .kids; cursor = o .cursor } ∷ u .arbitrations; ops = o .ops }
 
     -- from the last node to the first; the leaf slots from s on, the cursor cells from c on
     unfoldable pub up : ℕ → ℕ → List Flat → Up F
-    up s c [] = record { stack = []; infos = []; ops = [] }
+    up s c [] = record { stack = []; arbitrations = []; ops = [] }
     up s c (n ∷ ns) = upStep n s c (up (slotAfter n s) (cellAfter n c) ns)
 
   -- ---- reach, top-down
 
-  module _ (n0 nN : ℕ) where
+  module _ (opsAt cursorsAt : ℕ) where
     -- a composite's children: reached AND reach_k, halted OR (reached AND after_stop_k)
-    unfoldable pub spread : F → F → List (Kid3 F) → List (Op F) → Many F (Entry F)
+    unfoldable pub spread : F → F → List (ArbitratedChild F) → List (Op F) → Many F (Entry F)
     spread r h [] os = record { items = []; ops = os }
     spread r h (x ∷ xs) os =
-        let a = and A n0 r (x .reach) os in
-        let b = and A n0 r (x .after-stop) (a .ops) in
-        let d = or A n0 h (b .form) (b .ops) in
+        let a = and A opsAt r (x .reach) os in
+        let b = and A opsAt r (x .after-stop) (a .ops) in
+        let d = or A opsAt h (b .form) (b .ops) in
         let rest = spread r h xs (d .ops) in
         record { items = record { reached = a .form; called = d .form } ∷ rest .items; ops = rest .ops }
 
-    unfoldable pub childs : Flat → F → F → List (Kid3 F) → List (Op F) → Many F (Entry F)
-    childs leaf r h ks os = record { items = []; ops = os }
-    childs (fixed b) r h ks os = record { items = []; ops = os }
-    childs invert r h ks os = record { items = record { reached = r; called = h } ∷ []; ops = os }
-    childs (force b) r h ks os = record { items = record { reached = r; called = h } ∷ []; ops = os }
-    childs (ordered m q n) r h ks os = spread r h ks os
+    unfoldable pub children : Flat → F → F → List (ArbitratedChild F) → List (Op F) → Many F (Entry F)
+    children leaf r h ks os = record { items = []; ops = os }
+    children (fixed b) r h ks os = record { items = []; ops = os }
+    children invert r h ks os = record { items = record { reached = r; called = h } ∷ []; ops = os }
+    children (force b) r h ks os = record { items = record { reached = r; called = h } ∷ []; ops = os }
+    children (ordered m q n) r h ks os = spread r h ks os
 
     -- a cursor's next value: the arbitrated one if reached, the current one if untouched
     unfoldable pub nextCur : Flat → ℕ → F → F → F → List (Op F) → Many F F
@@ -245,8 +245,8 @@ module _ {F : Type 0} (A : Forms F) where
     nextCur invert c r u x os = record { items = []; ops = os }
     nextCur (force b) c r u x os = record { items = []; ops = os }
     nextCur (ordered true q n) c r u x os =
-        let a = push A n0 x r os in
-        let b = push A n0 (A .wire (nN + c)) u (a .ops) in
+        let a = push A opsAt x r os in
+        let b = push A opsAt (A .wire (cursorsAt + c)) u (a .ops) in
         record { items = A .plus (a .form) (b .form) ∷ []; ops = b .ops }
     nextCur (ordered false q n) c r u x os = record { items = []; ops = os }
 
@@ -254,26 +254,26 @@ module _ {F : Type 0} (A : Forms F) where
     lost = record { reached = A .constant 0; called = A .constant 0 }
 
     -- halted = called AND the flag; untouched = NOT reached AND NOT halted
-    unfoldable pub down : ℕ → ℕ → List (Info F) → List (Entry F) → List (Op F) → Down F
-    down i c [] st os = record { outs = []; curs = []; ops = os }
+    unfoldable pub down : ℕ → ℕ → List (Arbitration F) → List (Entry F) → List (Op F) → Down F
+    down i c [] st os = record { outs = []; cursors = []; ops = os }
     down i c (x ∷ xs) st os =
         let e = top lost st in
-        let h = and A n0 (e .called) (A .wire i) os in
-        let u = and A n0 (not′ A (e .reached)) (not′ A (h .form)) (h .ops) in
-        let k = nextCur (x .node) c (e .reached) (u .form) (x .cur) (u .ops) in
-        let s = childs (x .node) (e .reached) (h .form) (x .kids) (k .ops) in
+        let h = and A opsAt (e .called) (A .wire i) os in
+        let u = and A opsAt (not′ A (e .reached)) (not′ A (h .form)) (h .ops) in
+        let k = nextCur (x .node) c (e .reached) (u .form) (x .cursor) (u .ops) in
+        let s = children (x .node) (e .reached) (h .form) (x .kids) (k .ops) in
         let rest = down (suc i) (cellAfter (x .node) c) xs (s .items ++ drop 1 st) (s .ops) in
         record {
           outs = record { raw = x .raw; reached = e .reached; halted = h .form; was = A .wire i; untouched = u .form } ∷ rest .outs;
-          curs = k .items ++ rest .curs;
+          cursors = k .items ++ rest .cursors;
           ops = rest .ops;
         }
 
     -- next running: reached AND running, or untouched AND the flag
-    unfoldable pub flags : List (NOut F) → List (Op F) → Many F F
+    unfoldable pub flags : List (NodeReach F) → List (Op F) → Many F F
     flags [] os = record { items = []; ops = os }
     flags (x ∷ xs) os =
-        let a = and A n0 (x .reached) (x .raw .r) os in
-        let b = and A n0 (x .untouched) (x .was) (a .ops) in
+        let a = and A opsAt (x .reached) (x .raw .running) os in
+        let b = and A opsAt (x .untouched) (x .was) (a .ops) in
         let rest = flags xs (b .ops) in
         record { items = A .plus (a .form) (b .form) ∷ rest .items; ops = rest .ops }

@@ -108,17 +108,17 @@ Op = B.Op Form
 abbrev pub Out : Type 0
 Out = B.Out Form
 
-abbrev pub Trip : Type 0
-Trip = L.Trip Form
+abbrev pub StatusBits : Type 0
+StatusBits = L.StatusBits Form
 
-abbrev pub Kid1 : Type 0
-Kid1 = L.Kid1 Form
+abbrev pub GatedChild : Type 0
+GatedChild = L.GatedChild Form
 
-abbrev pub Kid2 : Type 0
-Kid2 = L.Kid2 Form
+abbrev pub ClearedChild : Type 0
+ClearedChild = L.ClearedChild Form
 
-abbrev pub Kid3 : Type 0
-Kid3 = L.Kid3 Form
+abbrev pub ArbitratedChild : Type 0
+ArbitratedChild = L.ArbitratedChild Form
 
 abbrev pub Picked : Type 0
 Picked = L.Picked Form
@@ -126,8 +126,8 @@ Picked = L.Picked Form
 abbrev pub Ordered : Type 0
 Ordered = L.Ordered Form
 
-abbrev pub Info : Type 0
-Info = L.Info Form
+abbrev pub Arbitration : Type 0
+Arbitration = L.Arbitration Form
 
 abbrev pub Up : Type 0
 Up = L.Up Form
@@ -135,8 +135,8 @@ Up = L.Up Form
 abbrev pub Entry : Type 0
 Entry = L.Entry Form
 
-abbrev pub NOut : Type 0
-NOut = L.NOut Form
+abbrev pub NodeReach : Type 0
+NodeReach = L.NodeReach Form
 
 abbrev pub Down : Type 0
 Down = L.Down Form

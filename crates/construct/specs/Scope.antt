@@ -5,7 +5,7 @@ use mathlib.Core.Logic.{_≢_}
 use lib.ListN.{length}
 use Rattle.construct.specs.Circuit.{Circuit, formsOf}
 use Rattle.construct.specs.Pairs.{Form, Op, Term}
-use Rattle.walk.specs.Lists.{All}
+use Rattle.lists.specs.Every.{All}
 
 -- the wires rise strictly from b on, stay below n, and no coefficient is zero
 abbrev pub Within : ℕ → ℕ → List Term → Type 0
@@ -21,7 +21,7 @@ abbrev pub InOrder : ℕ → List Op → Type 0
 InOrder n [] = Unit {0}
 InOrder n (o ∷ os) = Reads n (o .left) × Reads n (o .gate) × InOrder (suc n) os
 
--- .. and every form wires of the table, past n0 input cells
-pub record Scoped (n0 : ℕ) (c : Circuit Form) : Type 0 where
-  pub ops : InOrder n0 (c .ops)
-  pub forms : All (Reads (n0 + length (c .ops))) (formsOf c)
+-- .. and every form wires of the table, past opsAt input cells
+pub record Scoped (opsAt : ℕ) (c : Circuit Form) : Type 0 where
+  pub ops : InOrder opsAt (c .ops)
+  pub forms : All (Reads (opsAt + length (c .ops))) (formsOf c)

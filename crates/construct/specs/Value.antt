@@ -5,7 +5,7 @@ use mathlib.Core.Bool.{Bool}
 use mathlib.Core.List.{List, [], _++_, _∷_}
 use mathlib.Core.Path.{_≡_}
 use lib.ListN.{getD}
-use Rattle.construct.specs.Pairs.{Form, Op, Term, Trip}
+use Rattle.construct.specs.Pairs.{Form, Op, Term, StatusBits}
 use Rattle.walk.specs.Kind.{bit}
 use Rattle.walk.specs.Status.{Status, isF, isR, isS}
 
@@ -32,10 +32,10 @@ abbrev pub Bit : (ℕ → ℕ) → Form → Bool → Type 0
 Bit ρ f a = Val ρ f (bit a)
 
 -- three bits of which exactly the status's own is 1
-pub record TripIs (ρ : ℕ → ℕ) (t : Trip) (st : Status) : Type 0 where
-  pub is-s : Bit ρ (t .s) (isS st)
-  pub is-f : Bit ρ (t .f) (isF st)
-  pub is-r : Bit ρ (t .r) (isR st)
+pub record BitsAre (ρ : ℕ → ℕ) (t : StatusBits) (st : Status) : Type 0 where
+  pub is-s : Bit ρ (t .success) (isS st)
+  pub is-f : Bit ρ (t .failure) (isF st)
+  pub is-r : Bit ρ (t .running) (isR st)
 
 -- the left form of every op that is built is at least 0, so that truncated subtraction is right for it too
 unfoldable pub opVal : (ℕ → ℕ) → Op → ℕ

@@ -1,4 +1,4 @@
--- The float instance respects whole coefficients: on the images of small forms its operations give the images of the results. Assumes nothing.
+-- The float instance respects whole coefficients: on the images of small forms its operations give the images of the results.
 use Prim.Native.Nat.{ℕ, zero, suc, _+_, _*_, _≤_}
 use native.Mathlib.Omega.{arith}
 use native.Mathlib.Nat.{mul-le-mul-left, mul-le-mul-right, eq-of-mul-eq-mul-left, zero-lt-suc}
@@ -18,8 +18,8 @@ use Rattle.construct_floats.specs.Floats.{number, difference, floats, known as 
 use Rattle.construct.specs.Scope.{Within as Rising}
 use Rattle.construct.specs.Pairs.{Term, Form, constant, wire′, plus, negate, flip, scaled, times, offset, known, knownAt, empty, len}
 use Rattle.construct_sizes.specs.Exact.{Coefs}
-use Rattle.construct_instances.specs.Respects.{Fits, Respects}
-use Rattle.construct_faithful.specs.Float.{floatTerm, floatTerms, float}
+use Rattle.construct_instances.proofs.Respects.{Fits, Respects}
+use Rattle.construct_faithful.proofs.Float.{floatTerm, floatTerms, float}
 use Rattle.construct_faithful.proofs.Sums.{Near, near, eq-zero, Fit, fit-of, kept-fit, summed-same}
 
 affine : {p q : Float} {xs ys : List FloatTerm} → p ≡ q → xs ≡ ys → _≡_ {A = Affine} (record { bias = p; terms = xs }) (record { bias = q; terms = ys })

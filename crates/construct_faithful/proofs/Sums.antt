@@ -1,5 +1,5 @@
 -- A sum of two term lists in floats is the sum in pairs, coefficient by coefficient, where coefficients are at most 2^23 in size, so that a sum of two
--- is still exact and can be tested. Assumes nothing.
+-- is still exact and can be tested.
 use Prim.Native.Nat.{ℕ, suc, _+_, _≤_, _<_, compare, Ordering, Ordering·lt, Ordering·eq, Ordering·gt}
 use native.Mathlib.Omega.{arith}
 use mathlib.Core.Path.{_≡_, refl, ap, sym, _∙_}
@@ -16,7 +16,7 @@ use Rattle.arena_terms.specs.Sums.{kept, mergeInto, merge as mergeF, summed as 
 use Rattle.construct.specs.Pairs.{Term, summed, keep, insertAt, insert, merge}
 use Rattle.construct.specs.Scope.{Within as Rising}
 use Rattle.construct_sizes.specs.Exact.{Coefs}
-use Rattle.construct_faithful.specs.Float.{floatTerm, floatTerms}
+use Rattle.construct_faithful.proofs.Float.{floatTerm, floatTerms}
 
 -- at most 2^23 in size
 abbrev pub Near : ℕ → ℕ → Type 0

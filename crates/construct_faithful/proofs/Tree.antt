@@ -6,7 +6,7 @@ use mathlib.Core.Path.{_∙_, _≡_, ap}
 use lib.Ieee.{low}
 use lib.ListN.{length}
 use Rattle.construct_faithful.proofs.Values.{numbers, same-table}
-use Rattle.construct_faithful.specs.Table.{floatTable}
+use Rattle.construct_faithful.proofs.Table.{floatTable}
 use Rattle.construct.proofs.Forms.{circuit-scoped}
 use Rattle.construct.specs.Circuit.{Circuit, construct, flats, formsOf, opForms, outputForms}
 use Rattle.construct.specs.Lower.{Flat, flags}
@@ -14,10 +14,10 @@ use Rattle.construct.specs.Pairs.{Form, pairs}
 use Rattle.construct.specs.Scope.{InOrder}
 use Rattle.construct.specs.Value.{cell, tableOf}
 use Rattle.construct_faithful.proofs.Same.{faithful}
-use Rattle.construct_faithful.specs.Float.{float}
+use Rattle.construct_faithful.proofs.Float.{float}
 use Rattle.construct_floats.specs.Floats.{floats}
 use Rattle.construct_instances.proofs.Circuit.{same-circuit}
-use Rattle.construct_instances.specs.Respects.{ofCircuit}
+use Rattle.construct_instances.proofs.Respects.{ofCircuit}
 use Rattle.construct_means.proofs.Circuit.{loaded-long}
 use Rattle.construct_means.proofs.Sizes.{sizes}
 use Rattle.construct_means.specs.Means.{Loaded, Shaped, circuitOf}
@@ -25,7 +25,7 @@ use Rattle.construct_sizes.proofs.Tree.{tree-exact, tree-modest}
 use Rattle.construct_sizes.specs.Exact.{Products, Small, Sums}
 use Rattle.tree.specs.Forest.{Forest, counts, preorder, size, width}
 use Rattle.walk.specs.Kind.{kindOf}
-use Rattle.walk.specs.Lists.{All}
+use Rattle.lists.specs.Every.{All}
 use Rattle.wire.specs.Terms.{Affine}
 
 -- The circuit with f32 coefficients is that with whole coefficients, number by number.

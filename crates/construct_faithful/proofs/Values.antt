@@ -5,7 +5,7 @@ use mathlib.Core.List.{List, [], _++_, _∷_}
 use mathlib.Core.Path.{_∙_, _≡_, ap, refl, sym}
 use lib.Ieee.{Float, add, binary32, low, mul, nan}
 use lib.ListN.{List·getD-append, getD, length, length-append, take}
-use Rattle.construct_faithful.specs.Table.{floatTable}
+use Rattle.construct_faithful.proofs.Table.{floatTable}
 use Rattle.construct.proofs.Scope.{agree-op}
 use Rattle.construct.specs.Circuit.{opForms}
 use Rattle.construct.specs.Pairs.{Form, Op, Term}
@@ -15,12 +15,12 @@ use Rattle.exact.proofs.Tests.{relu-diff}
 use Rattle.exact.proofs.Whole.{add-mul-diff, diff-same, mul-diff}
 use Rattle.exact.specs.Tests.{relu}
 use Rattle.exact.specs.Whole.{diff}
-use Rattle.construct_faithful.specs.Float.{float, floatTerms}
+use Rattle.construct_faithful.proofs.Float.{float, floatTerms}
 use Rattle.construct_floats.specs.Floats.{number}
-use Rattle.construct_instances.specs.Respects.{ofOp}
+use Rattle.construct_instances.proofs.Respects.{ofOp}
 use Rattle.construct_sizes.specs.Exact.{Coefs, OpExact, Products, Small, Sums}
-use Rattle.walk.proofs.Lists.{all-append}
-use Rattle.walk.specs.Lists.{All}
+use Rattle.lists.proofs.Every.{all-append}
+use Rattle.lists.specs.Every.{All}
 use Rattle.wire.specs.Terms.{added, valueIn}
 use mathlib.Core.List.{map}
 use Rattle.exact.specs.Whole as E

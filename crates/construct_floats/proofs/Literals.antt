@@ -1,7 +1,6 @@
--- The algebra's small numbers are the literals that code has. Assumes nothing.
-use Prim.Native.Nat.{ℕ}
+-- The algebra's small numbers are the literals that code has.
 use mathlib.Core.Path.{_≡_, refl}
-use lib.Ieee.{Float, binary32, sub, add, neg, round, ofBits}
+use lib.Ieee.{sub, add, neg, round, ofBits}
 use Rattle.exact.specs.Whole.{diff, zero32, one32, minusOne32}
 use Rattle.construct_floats.specs.Floats.{number, difference}
 

@@ -14,7 +14,7 @@ use Rattle.construct.specs.Forms.{Known, No, Open, Yes}
 use Rattle.construct.specs.Lower.{top}
 use Rattle.construct.specs.Pairs.{Form, Op, Term, constant, known, negate, offset, pairs, plus, scaled, wire′}
 use Rattle.construct.specs.Scope.{Reads}
-use Rattle.construct_instances.specs.Respects.{Fits}
+use Rattle.construct_instances.proofs.Respects.{Fits}
 use Rattle.construct_sizes.proofs.Bounds.{Bits, Low, constant-low, low-up, negate-low, not-low, offset-low, plus-low, scaled-low}
 use Rattle.construct_sizes.proofs.Coef.{small}
 use Rattle.construct_sizes.specs.Exact.{Coefs, Small}
@@ -79,8 +79,8 @@ apart-fit a b =
     }
 
 -- what builder.rs makes of small forms
-module _ (n0 : ℕ) where
-  and-fit-at : (t u : Known) (d : ℕ) (f g : Form) (os : List Op) → 1 ≤ d → Fit d f → Fit d g → Fit d (andAt pairs n0 t u f g os .form)
+module _ (opsAt : ℕ) where
+  and-fit-at : (t u : Known) (d : ℕ) (f g : Form) (os : List Op) → 1 ≤ d → Fit d f → Fit d g → Fit d (andAt pairs opsAt t u f g os .form)
   unfolding andAt push
   and-fit-at Yes u d f g os l h k = k
   and-fit-at No Yes d f g os l h k = h
@@ -88,13 +88,13 @@ module _ (n0 : ℕ) where
   and-fit-at No Open d f g os l h k = fit-up 0 d (constant 0) (constant-fit 0) (omega arith)
   and-fit-at Open Yes d f g os l h k = h
   and-fit-at Open No d f g os l h k = fit-up 0 d (constant 0) (constant-fit 0) (omega arith)
-  and-fit-at Open Open d f g os l h k = fit-up 1 d (wire′ (n0 + length os)) (wire-fit (n0 + length os)) l
+  and-fit-at Open Open d f g os l h k = fit-up 1 d (wire′ (opsAt + length os)) (wire-fit (opsAt + length os)) l
 
-  pub and-fit : (d : ℕ) (f g : Form) (os : List Op) → 1 ≤ d → Fit d f → Fit d g → Fit d (and pairs n0 f g os .form)
+  pub and-fit : (d : ℕ) (f g : Form) (os : List Op) → 1 ≤ d → Fit d f → Fit d g → Fit d (and pairs opsAt f g os .form)
   unfolding and
   and-fit d f g os l h k = and-fit-at (known f) (known g) d f g os l h k
 
-  or-fit-at : (t u : Known) (d e : ℕ) (f g : Form) (os : List Op) → known f ≡ t → known g ≡ u → Fit d f → Fit e g → Fit (d + e + 1) (orAt pairs n0 t u f g os .form)
+  or-fit-at : (t u : Known) (d e : ℕ) (f g : Form) (os : List Op) → known f ≡ t → known g ≡ u → Fit d f → Fit e g → Fit (d + e + 1) (orAt pairs opsAt t u f g os .form)
   unfolding orAt and andAt push
   or-fit-at Yes u d e f g os i j h k = fit-up 1 (d + e + 1) (constant 1) (constant-fit 1) (omega arith)
   or-fit-at No Yes d e f g os i j h k = fit-up 1 (d + e + 1) (constant 1) (constant-fit 1) (omega arith)
@@ -102,35 +102,35 @@ module _ (n0 : ℕ) where
   or-fit-at No Open d e f g os i j h k = fit-up e (d + e + 1) g k (omega arith)
   or-fit-at Open Yes d e f g os i j h k = fit-up 1 (d + e + 1) (constant 1) (constant-fit 1) (omega arith)
   or-fit-at Open No d e f g os i j h k = fit-up d (d + e + 1) f h (omega arith)
-  or-fit-at Open Open d e f g os i j h k = rw (i, j) (minus-fit (d + e) 1 (plus f g) (wire′ (n0 + length os)) (plus-fit d e f g h k) (wire-fit (n0 + length os)))
+  or-fit-at Open Open d e f g os i j h k = rw (i, j) (minus-fit (d + e) 1 (plus f g) (wire′ (opsAt + length os)) (plus-fit d e f g h k) (wire-fit (opsAt + length os)))
 
-  pub or-fit : (d e : ℕ) (f g : Form) (os : List Op) → Fit d f → Fit e g → Fit (d + e + 1) (or pairs n0 f g os .form)
+  pub or-fit : (d e : ℕ) (f g : Form) (os : List Op) → Fit d f → Fit e g → Fit (d + e + 1) (or pairs opsAt f g os .form)
   unfolding or
   or-fit d e f g os h k = or-fit-at (known f) (known g) d e f g os refl refl h k
 
-  pub relu-fit : (f : Form) (os : List Op) → Fit 1 (relu pairs n0 f os .form)
+  pub relu-fit : (f : Form) (os : List Op) → Fit 1 (relu pairs opsAt f os .form)
   unfolding relu push
-  relu-fit f os = wire-fit (n0 + length os)
+  relu-fit f os = wire-fit (opsAt + length os)
 
-  isZero-fit-at : (t : Known) (c : Form) (os : List Op) → Fit 1 (isZeroAt pairs n0 t c os .form)
+  isZero-fit-at : (t : Known) (c : Form) (os : List Op) → Fit 1 (isZeroAt pairs opsAt t c os .form)
   unfolding isZeroAt relu push
   isZero-fit-at No c os = constant-fit 1
   isZero-fit-at Yes c os = fit-up 0 1 (constant 0) (constant-fit 0) (omega arith)
-  isZero-fit-at Open c os = wire-fit (n0 + length os)
+  isZero-fit-at Open c os = wire-fit (opsAt + length os)
 
-  pub isZero-fit : (c : Form) (os : List Op) → Fit 1 (isZero pairs n0 c os .form)
+  pub isZero-fit : (c : Form) (os : List Op) → Fit 1 (isZero pairs opsAt c os .form)
   unfolding isZero
   isZero-fit c os = isZero-fit-at (known c) c os
 
   bit-fit : (b : Bool) → Fit 1 (constant (bit b))
   bit-fit b = fit-up (bit b) 1 (constant (bit b)) (constant-fit (bit b)) (bit-le b)
 
-  atLeast-fit-at : (t : Known) (c : Form) (k : ℕ) (os : List Op) → Fit 1 (atLeastAt pairs n0 t c k os .form)
+  atLeast-fit-at : (t : Known) (c : Form) (k : ℕ) (os : List Op) → Fit 1 (atLeastAt pairs opsAt t c k os .form)
   unfolding atLeastAt step relu push
   atLeast-fit-at No c k os = bit-fit (leb (c .bn + k) (c .bp))
   atLeast-fit-at Yes c k os = bit-fit (leb (c .bn + k) (c .bp))
-  atLeast-fit-at Open c k os = apart-fit (n0 + length os) (n0 + suc (length os))
+  atLeast-fit-at Open c k os = apart-fit (opsAt + length os) (opsAt + suc (length os))
 
-  pub atLeast-fit : (c : Form) (k : ℕ) (os : List Op) → Fit 1 (atLeast pairs n0 c k os .form)
+  pub atLeast-fit : (c : Form) (k : ℕ) (os : List Op) → Fit 1 (atLeast pairs opsAt c k os .form)
   unfolding atLeast
   atLeast-fit c k os = atLeast-fit-at (known c) c k os

@@ -11,7 +11,7 @@ use Rattle.construct.specs.Builder.{and, andAt, atLeast, atLeastAt, isZero, isZ
 use Rattle.construct.specs.Forms.{Forms, Known, No, Open, Yes}
 use Rattle.construct.specs.Pairs.{Form, Op, Out, constant, known, negate, offset, pairs, plus, wire′}
 use Rattle.construct_instances.proofs.Fits.{Fit, fit-up, fits, negate-fit, offset-fit, plus-fit, relu-fit, wire-fit}
-use Rattle.construct_instances.specs.Respects.{Respects, ofOp}
+use Rattle.construct_instances.proofs.Respects.{Respects, ofOp}
 use Rattle.walk.specs.Kind.{bit}
 use Rattle.construct.specs.Builder as B
 
@@ -51,36 +51,36 @@ module _ {F : Type 0} (A : Forms F) (of : Form → F) (same : Respects A of) whe
       let k′ : Fit 4194304 g = fit-up 1 4194304 g k (omega arith) in
       ap (λ (x : F). A .plus (of f) x) (negate-sim g k′) ∙ plus-sim f (negate g) (fit-up (most + most) 4194304 f h (omega arith)) (negate-fit 4194304 g k′)
 
-  module _ (n0 : ℕ) where
-    at-sim : (os : List Op) → A .wire (n0 + length (ops os)) ≡ of (wire′ (n0 + length os))
-    at-sim os = ap (λ (k : ℕ). A .wire (n0 + k)) (length-map os (ofOp of)) ∙ same .wire-same (n0 + length os)
+  module _ (opsAt : ℕ) where
+    at-sim : (os : List Op) → A .wire (opsAt + length (ops os)) ≡ of (wire′ (opsAt + length os))
+    at-sim os = ap (λ (k : ℕ). A .wire (opsAt + k)) (length-map os (ofOp of)) ∙ same .wire-same (opsAt + length os)
 
-    pub push-sim : (f g : Form) (os : List Op) → push A n0 (of f) (of g) (ops os) ≡ out (push pairs n0 f g os)
+    pub push-sim : (f g : Form) (os : List Op) → push A opsAt (of f) (of g) (ops os) ≡ out (push pairs opsAt f g os)
     unfolding push
     push-sim f g os = λ i. record { form = at-sim os i; ops = ofOp of (record { left = f; gate = g }) ∷ ops os }
 
-    relu-sim : (f : Form) (os : List Op) → relu A n0 (of f) (ops os) ≡ out (relu pairs n0 f os)
+    relu-sim : (f : Form) (os : List Op) → relu A opsAt (of f) (ops os) ≡ out (relu pairs opsAt f os)
     unfolding relu
-    relu-sim f os = ap (λ (x : F). push A n0 x (of f) (ops os)) (same .constant-same 1 (omega arith)) ∙ push-sim (constant 1) f os
+    relu-sim f os = ap (λ (x : F). push A opsAt x (of f) (ops os)) (same .constant-same 1 (omega arith)) ∙ push-sim (constant 1) f os
 
     -- a constant, with no op made
     plain-sim : (b : ℕ) (os : List Op) → b ≤ 1 → _≡_ {A = B.Out F} (record { form = A .constant b; ops = ops os }) (record { form = of (constant b); ops = ops os })
     plain-sim b os l = λ i. record { form = same .constant-same b l i; ops = ops os }
 
-    isZero-sim-at : (t : Known) (c : Form) (os : List Op) → Fit most c → isZeroAt A n0 t (of c) (ops os) ≡ out (isZeroAt pairs n0 t c os)
+    isZero-sim-at : (t : Known) (c : Form) (os : List Op) → Fit most c → isZeroAt A opsAt t (of c) (ops os) ≡ out (isZeroAt pairs opsAt t c os)
     unfolding isZeroAt
     isZero-sim-at No c os h = plain-sim 1 os (omega arith)
     isZero-sim-at Yes c os h = plain-sim 0 os (omega arith)
     isZero-sim-at Open c os h =
         let k : Fit 4194304 c = fit-up most 4194304 c h (omega arith) in
-        ap (λ (x : F). relu A n0 x (ops os)) (ap (λ (x : F). A .offset 1 0 x) (negate-sim c k) ∙ offset-sim 1 0 (negate c) (omega arith) (omega arith) (negate-fit 4194304 c k))
+        ap (λ (x : F). relu A opsAt x (ops os)) (ap (λ (x : F). A .offset 1 0 x) (negate-sim c k) ∙ offset-sim 1 0 (negate c) (omega arith) (omega arith) (negate-fit 4194304 c k))
         ∙ relu-sim (offset 1 0 (negate c)) os
 
-    pub isZero-sim : (c : Form) (os : List Op) → Fit most c → isZero A n0 (of c) (ops os) ≡ out (isZero pairs n0 c os)
+    pub isZero-sim : (c : Form) (os : List Op) → Fit most c → isZero A opsAt (of c) (ops os) ≡ out (isZero pairs opsAt c os)
     unfolding isZero
-    isZero-sim c os h = ap (λ (t : Known). isZeroAt A n0 t (of c) (ops os)) (known-sim c h) ∙ isZero-sim-at (known c) c os h
+    isZero-sim c os h = ap (λ (t : Known). isZeroAt A opsAt t (of c) (ops os)) (known-sim c h) ∙ isZero-sim-at (known c) c os h
 
-    step-sim : (c : Form) (k : ℕ) (os : List Op) → k ≤ 128 → Fit 1 c → step A n0 (of c) k (ops os) ≡ out (step pairs n0 c k os)
+    step-sim : (c : Form) (k : ℕ) (os : List Op) → k ≤ 128 → Fit 1 c → step A opsAt (of c) k (ops os) ≡ out (step pairs opsAt c k os)
     unfolding step
     step-sim c k os l h =
         let f = offset 1 k c in
@@ -88,17 +88,17 @@ module _ {F : Type 0} (A : Forms F) (of : Form → F) (same : Respects A of) whe
         let hf : Fit (1 + 1 + k) f = offset-fit 1 k 1 c h in
         let e₁ : A .offset 1 k (of c) ≡ of f = offset-sim 1 k c (omega arith) l (fit-up 1 4194304 c h (omega arith)) in
         let e₂ : A .offset 0 1 (of f) ≡ of g = offset-sim 0 1 f (omega arith) (omega arith) (fit-up (1 + 1 + k) 4194304 f hf (omega arith)) in
-        let hi = relu pairs n0 f os in
-        let lo = relu pairs n0 g (hi .ops) in
-        let eh : relu A n0 (A .offset 1 k (of c)) (ops os) ≡ out hi = ap (λ (x : F). relu A n0 x (ops os)) e₁ ∙ relu-sim f os in
-        let el : relu A n0 (A .offset 0 1 (A .offset 1 k (of c))) (relu A n0 (A .offset 1 k (of c)) (ops os) .ops) ≡ out lo
-        = (λ i. relu A n0 (A .offset 0 1 (e₁ i)) (eh i .ops)) ∙ ap (λ (x : F). relu A n0 x (ops (hi .ops))) e₂ ∙ relu-sim g (hi .ops) in
+        let hi = relu pairs opsAt f os in
+        let lo = relu pairs opsAt g (hi .ops) in
+        let eh : relu A opsAt (A .offset 1 k (of c)) (ops os) ≡ out hi = ap (λ (x : F). relu A opsAt x (ops os)) e₁ ∙ relu-sim f os in
+        let el : relu A opsAt (A .offset 0 1 (A .offset 1 k (of c))) (relu A opsAt (A .offset 1 k (of c)) (ops os) .ops) ≡ out lo
+        = (λ i. relu A opsAt (A .offset 0 1 (e₁ i)) (eh i .ops)) ∙ ap (λ (x : F). relu A opsAt x (ops (hi .ops))) e₂ ∙ relu-sim g (hi .ops) in
         (λ i. record { form = minus A (eh i .form) (el i .form); ops = el i .ops })
         ∙ (λ i. record { form = made i; ops = ops (lo .ops) })
       where
-        made : minus A (of (relu pairs n0 (offset 1 k c) os .form)) (of (relu pairs n0 (offset 0 1 (offset 1 k c)) (relu pairs n0 (offset 1 k c) os .ops) .form))
-            ≡ of (minus pairs (relu pairs n0 (offset 1 k c) os .form) (relu pairs n0 (offset 0 1 (offset 1 k c)) (relu pairs n0 (offset 1 k c) os .ops) .form))
-        made = minus-sim _ _ (fit-up 1 (most + most) _ (relu-fit n0 (offset 1 k c) os) (omega arith)) (relu-fit n0 _ _)
+        made : minus A (of (relu pairs opsAt (offset 1 k c) os .form)) (of (relu pairs opsAt (offset 0 1 (offset 1 k c)) (relu pairs opsAt (offset 1 k c) os .ops) .form))
+            ≡ of (minus pairs (relu pairs opsAt (offset 1 k c) os .form) (relu pairs opsAt (offset 0 1 (offset 1 k c)) (relu pairs opsAt (offset 1 k c) os .ops) .form))
+        made = minus-sim _ _ (fit-up 1 (most + most) _ (relu-fit opsAt (offset 1 k c) os) (omega arith)) (relu-fit opsAt _ _)
 
     fixed-sim : (c : Form) (k : ℕ) (os : List Op) → k ≤ 128 → Fit 1 c
         → _≡_ {A = B.Out F} (record { form = A .constant (bit (A .reaches k (of c))); ops = ops os }) (record { form = of (constant (bit (leb (c .bn + k) (c .bp)))); ops = ops os })
@@ -106,17 +106,17 @@ module _ {F : Type 0} (A : Forms F) (of : Form → F) (same : Respects A of) whe
         (λ i. record { form = A .constant (bit (same .reaches-same k c l (fits 1 8388608 c (omega arith) h) i)); ops = ops os })
         ∙ plain-sim (bit (leb (c .bn + k) (c .bp))) os (bit-le (leb (c .bn + k) (c .bp)))
 
-    atLeast-sim-at : (t : Known) (c : Form) (k : ℕ) (os : List Op) → k ≤ 128 → Fit 1 c → atLeastAt A n0 t (of c) k (ops os) ≡ out (atLeastAt pairs n0 t c k os)
+    atLeast-sim-at : (t : Known) (c : Form) (k : ℕ) (os : List Op) → k ≤ 128 → Fit 1 c → atLeastAt A opsAt t (of c) k (ops os) ≡ out (atLeastAt pairs opsAt t c k os)
     unfolding atLeastAt
     atLeast-sim-at No c k os l h = fixed-sim c k os l h
     atLeast-sim-at Yes c k os l h = fixed-sim c k os l h
     atLeast-sim-at Open c k os l h = step-sim c k os l h
 
-    pub atLeast-sim : (c : Form) (k : ℕ) (os : List Op) → k ≤ 128 → Fit 1 c → atLeast A n0 (of c) k (ops os) ≡ out (atLeast pairs n0 c k os)
+    pub atLeast-sim : (c : Form) (k : ℕ) (os : List Op) → k ≤ 128 → Fit 1 c → atLeast A opsAt (of c) k (ops os) ≡ out (atLeast pairs opsAt c k os)
     unfolding atLeast
-    atLeast-sim c k os l h = ap (λ (t : Known). atLeastAt A n0 t (of c) k (ops os)) (known-sim c (fit-up 1 most c h (omega arith))) ∙ atLeast-sim-at (known c) c k os l h
+    atLeast-sim c k os l h = ap (λ (t : Known). atLeastAt A opsAt t (of c) k (ops os)) (known-sim c (fit-up 1 most c h (omega arith))) ∙ atLeast-sim-at (known c) c k os l h
 
-    and-sim-at : (t u : Known) (f g : Form) (os : List Op) → andAt A n0 t u (of f) (of g) (ops os) ≡ out (andAt pairs n0 t u f g os)
+    and-sim-at : (t u : Known) (f g : Form) (os : List Op) → andAt A opsAt t u (of f) (of g) (ops os) ≡ out (andAt pairs opsAt t u f g os)
     unfolding andAt
     and-sim-at Yes u f g os = refl
     and-sim-at No Yes f g os = refl
@@ -126,15 +126,15 @@ module _ {F : Type 0} (A : Forms F) (of : Form → F) (same : Respects A of) whe
     and-sim-at Open No f g os = plain-sim 0 os (omega arith)
     and-sim-at Open Open f g os = push-sim f g os
 
-    pub and-sim : (f g : Form) (os : List Op) → Fit most f → Fit most g → and A n0 (of f) (of g) (ops os) ≡ out (and pairs n0 f g os)
+    pub and-sim : (f g : Form) (os : List Op) → Fit most f → Fit most g → and A opsAt (of f) (of g) (ops os) ≡ out (and pairs opsAt f g os)
     unfolding and
-    and-sim f g os h k = (λ i. andAt A n0 (known-sim f h i) (known-sim g k i) (of f) (of g) (ops os)) ∙ and-sim-at (known f) (known g) f g os
+    and-sim f g os h k = (λ i. andAt A opsAt (known-sim f h i) (known-sim g k i) (of f) (of g) (ops os)) ∙ and-sim-at (known f) (known g) f g os
 
-    both-fit : (f g : Form) (os : List Op) → known f ≡ Open → known g ≡ Open → Fit 1 (and pairs n0 f g os .form)
+    both-fit : (f g : Form) (os : List Op) → known f ≡ Open → known g ≡ Open → Fit 1 (and pairs opsAt f g os .form)
     unfolding and andAt push
-    both-fit f g os i j = rw (i, j) (wire-fit (n0 + length os))
+    both-fit f g os i j = rw (i, j) (wire-fit (opsAt + length os))
 
-    or-sim-at : (t u : Known) (f g : Form) (os : List Op) → known f ≡ t → known g ≡ u → Fit most f → Fit most g → orAt A n0 t u (of f) (of g) (ops os) ≡ out (orAt pairs n0 t u f g os)
+    or-sim-at : (t u : Known) (f g : Form) (os : List Op) → known f ≡ t → known g ≡ u → Fit most f → Fit most g → orAt A opsAt t u (of f) (of g) (ops os) ≡ out (orAt pairs opsAt t u f g os)
     unfolding orAt
     or-sim-at Yes u f g os i j h k = plain-sim 1 os (omega arith)
     or-sim-at No Yes f g os i j h k = plain-sim 1 os (omega arith)
@@ -144,11 +144,11 @@ module _ {F : Type 0} (A : Forms F) (of : Form → F) (same : Respects A of) whe
     or-sim-at Open No f g os i j h k = refl
     or-sim-at Open Open f g os i j h k =
         let e = and-sim f g os h k in
-        let x = and pairs n0 f g os in
+        let x = and pairs opsAt f g os in
         let p : A .plus (of f) (of g) ≡ of (plus f g) = plus-sim f g (fit-up most 4194304 f h (omega arith)) (fit-up most 4194304 g k (omega arith)) in
         (λ l. record { form = minus A (p l) (e l .form); ops = e l .ops })
         ∙ (λ l. record { form = minus-sim (plus f g) (x .form) (plus-fit most most f g h k) (both-fit f g os i j) l; ops = ops (x .ops) })
 
-    pub or-sim : (f g : Form) (os : List Op) → Fit most f → Fit most g → or A n0 (of f) (of g) (ops os) ≡ out (or pairs n0 f g os)
+    pub or-sim : (f g : Form) (os : List Op) → Fit most f → Fit most g → or A opsAt (of f) (of g) (ops os) ≡ out (or pairs opsAt f g os)
     unfolding or
-    or-sim f g os h k = (λ i. orAt A n0 (known-sim f h i) (known-sim g k i) (of f) (of g) (ops os)) ∙ or-sim-at (known f) (known g) f g os refl refl h k
+    or-sim f g os h k = (λ i. orAt A opsAt (known-sim f h i) (known-sim g k i) (of f) (of g) (ops os)) ∙ or-sim-at (known f) (known g) f g os refl refl h k

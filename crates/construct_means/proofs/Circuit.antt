@@ -10,18 +10,18 @@ use Rattle.construct.proofs.Right.{Holds, Right}
 use Rattle.construct.proofs.Table.{table-right}
 use Rattle.construct.specs.Circuit.{build, construct, flats, inputs, outputsOf}
 use Rattle.construct.specs.Lower.{Flat, flags}
-use Rattle.construct.specs.Pairs.{Form, NOut, pairs}
+use Rattle.construct.specs.Pairs.{Form, NodeReach, pairs}
 use Rattle.construct.specs.Value.{Bit, Val, cell, tableOf}
 use Rattle.construct_means.proofs.Same.{flats-are, outsOf, stateOf, walk-same}
 use Rattle.construct_means.proofs.Sizes.{sizes}
 use Rattle.construct_means.specs.Means.{Loaded, Means, OutputIs, Shaped, circuitOf, cursorsOf}
 use Rattle.tree.specs.Forest.{Forest, counts, preorder, width}
 use Rattle.walk.specs.Kind.{kindOf}
-use Rattle.walk.specs.Lists.{All2, both, none}
+use Rattle.lists.specs.Every.{All2, both, none}
 use Rattle.walk.specs.Walk.{Fate, fatesOf}
 
 -- outputs from the passes' results
-outputs-are : (ρ : ℕ → ℕ) {xs : List NOut} {fs : List Form} (ys : List Fate) → All2 (OutIs ρ) xs (outsOf ys) → All2 (λ f y. Bit ρ f (nextF y)) fs (outsOf ys)
+outputs-are : (ρ : ℕ → ℕ) {xs : List NodeReach} {fs : List Form} (ys : List Fate) → All2 (OutIs ρ) xs (outsOf ys) → All2 (λ f y. Bit ρ f (nextF y)) fs (outsOf ys)
     → All2 (OutputIs ρ) (outputsOf xs fs) ys
 unfolding outsOf
 outputs-are ρ [] none none = none
@@ -48,8 +48,8 @@ module _ (f : Forest ℕ) (shaped : Shaped kindOf f) (tree : width f ≡ 1) (fla
   right : Right ns (cell (tableOf ins (circuitOf f .ops))) (stateOf flags cursors row)
   right = table-right ns ins (stateOf flags cursors row) loaded-long holds
 
-  pub cursors-right : All2 (Val (cell (tableOf ins (circuitOf f .ops)))) (build pairs ns .pass .curs) (cursorsOf (fatesOf f flags cursors row))
-  cursors-right = rw (rw (← flats-are f) at (walk-same f shaped tree flags cursors row) .1) at (right .pass .curs)
+  pub cursors-right : All2 (Val (cell (tableOf ins (circuitOf f .ops)))) (build pairs ns .pass .cursors) (cursorsOf (fatesOf f flags cursors row))
+  cursors-right = rw (rw (← flats-are f) at (walk-same f shaped tree flags cursors row) .1) at (right .pass .cursors)
 
   pub circuit-means : Means f flags cursors row (tableOf ins (circuitOf f .ops))
   unfolding construct

@@ -117,7 +117,7 @@ abbrev answer : Seat → List Status → Status
 answer x ss = would (x .own .kind) (x .own .cursor) (x .own .given) ss
 
 abbrev leftOf : Seat → List Status → Bound
-leftOf x ss = record { own = x .own; sem = record { node = flatOf (x .own .kind) (x .count); raw = answer x ss; kids = marksOf (x .own .kind) (x .own .cursor) ss; cur = resume (x .own .kind) (x .own .cursor) ss } }
+leftOf x ss = record { own = x .own; sem = record { node = flatOf (x .own .kind) (x .count); raw = answer x ss; kids = marksOf (x .own .kind) (x .own .cursor) ss; cursor = resume (x .own .kind) (x .own .cursor) ss } }
 
 abbrev count : Seat → ℕ
 count x = x .count
@@ -247,7 +247,7 @@ abbrev tellAll : Bound → Call → List Call
 tellAll b e = tell (b .sem .node) (e .ticked) (e .called && b .own .running) (b .sem .kids)
 
 abbrev fateOf : Bound → Call → Fate
-fateOf b e = record { own = b .own; would = b .sem .raw; ticked = e .ticked; halted = e .called && b .own .running; resume = b .sem .cur }
+fateOf b e = record { own = b .own; would = b .sem .raw; ticked = e .ticked; halted = e .called && b .own .running; resume = b .sem .cursor }
 
 tell-tab : (k : Kind) (cursor w : ℕ) (ss : List Status) (t h : Bool) → length ss ≡ w → w ≡ arity k w
     → tell (flatOf k (arity k w)) t h (marksOf k cursor ss) ≡ tab (tells k cursor ss t h) 0 w
@@ -304,14 +304,14 @@ next-same (ordered false q n) t h x y = refl
 module _ (flags cursors row : List ℕ) where
   falls-same : (i c s : ℕ) (ns : List Flat) (st : List Call)
       → (lots (fl flags cursors row) (read flags cursors row) i c (sems (bounds flags cursors row i c s ns)) st .outs ≡ outsOf (falls tellAll fateOf idle (bounds flags cursors row i c s ns) st))
-      × (lots (fl flags cursors row) (read flags cursors row) i c (sems (bounds flags cursors row i c s ns)) st .curs ≡ cursorsOf (falls tellAll fateOf idle (bounds flags cursors row i c s ns) st))
+      × (lots (fl flags cursors row) (read flags cursors row) i c (sems (bounds flags cursors row i c s ns)) st .cursors ≡ cursorsOf (falls tellAll fateOf idle (bounds flags cursors row i c s ns) st))
   unfolding lots seats sems outsOf each
   falls-same i c s [] st = (refl, refl)
   falls-same i c s (n ∷ ns) st =
       let b = leftOf (seatOf flags cursors row i c s n) (take (countOf n) (ups flags cursors row (suc i) (cellAfter n c) (slotAfter n s) ns)) in
       let e = first idle st in
       let h = falls-same (suc i) (cellAfter n c) (slotAfter n s) ns (tell n (e .ticked) (e .called && fl flags cursors row i) (b .sem .kids) ++ drop 1 st) in
-      rw (first-top st, node-again n) (rw (h .0) refl, rw (h .1, next-same n (e .ticked) (e .called && fl flags cursors row i) (b .sem .cur) (read flags cursors row c)) refl)
+      rw (first-top st, node-again n) (rw (h .0) refl, rw (h .1, next-same n (e .ticked) (e .called && fl flags cursors row i) (b .sem .cursor) (read flags cursors row c)) refl)
 
   owned-shaped : (i c s : ℕ) (f : Forest ℕ) → Shaped kindOf f → Shaped kindIn (owned flags cursors row i c s f)
   unfolding owned
@@ -332,7 +332,7 @@ stateOf flags cursors row = record { flag = fl flags cursors row; cursor = read 
 
 pub walk-same : (f : Forest ℕ) → Shaped kindOf f → width f ≡ 1 → (flags cursors row : List ℕ)
     → (listWalk (nodesOf f) (stateOf flags cursors row) .outs ≡ outsOf (fatesOf f flags cursors row))
-    × (listWalk (nodesOf f) (stateOf flags cursors row) .curs ≡ cursorsOf (fatesOf f flags cursors row))
+    × (listWalk (nodesOf f) (stateOf flags cursors row) .cursors ≡ cursorsOf (fatesOf f flags cursors row))
 unfolding listWalk fatesOf
 walk-same f shaped one flags cursors row =
     let g = owned flags cursors row 0 0 0 f in

@@ -6,10 +6,10 @@ use lib.ListN.{getD, length}
 use Rattle.construct.specs.Circuit.{Circuit, Output, construct, flats}
 use Rattle.construct.specs.Lower.{flags}
 use Rattle.construct.specs.Pairs.{Form, pairs}
-use Rattle.construct.specs.Value.{Bit, TripIs, Val, cell}
+use Rattle.construct.specs.Value.{Bit, BitsAre, Val, cell}
 use Rattle.tree.specs.Forest.{Forest, counts, node, none, preorder, size, width}
 use Rattle.walk.specs.Kind.{Kind, arity, bit, hasCursor}
-use Rattle.walk.specs.Lists.{All2}
+use Rattle.lists.specs.Every.{All2}
 use Rattle.walk.specs.Status.{isF, isR, isS, statusOf}
 use Rattle.walk.specs.Walk.{Fate, asRead, cellsIn, each, fatesOf, isRunning, nextCursor, nextFlag, slotsIn, status}
 
@@ -34,7 +34,7 @@ circuitOf f = construct pairs (flats (preorder f) (counts f))
 
 -- a node's outputs, in a table ρ, are what becomes of it: its would-be status, ticked, halted, its next flag
 pub record OutputIs (ρ : ℕ → ℕ) (o : Output Form) (x : Fate) : Type 0 where
-  pub status : TripIs ρ (o .status) (x .would)
+  pub status : BitsAre ρ (o .status) (x .would)
   pub reached : Bit ρ (o .reached) (x .ticked)
   pub halted : Bit ρ (o .halted) (x .halted)
   pub running : Bit ρ (o .running) (nextFlag x)

@@ -17,28 +17,28 @@ use Rattle.construct.specs.Value.{N, P, Val, opVal}
 use Rattle.construct_sizes.proofs.Bounds.{Below, Bits, Fine, Low, OpFine, Tables, Under, low-up}
 use Rattle.construct_sizes.proofs.Coef.{products, small}
 use Rattle.construct_sizes.proofs.Cursors.{TwoWires, cursors-two, two-below, two-small}
-use Rattle.construct_sizes.proofs.DownLow.{NOutLow}
+use Rattle.construct_sizes.proofs.DownLow.{NodeReachLow}
 use Rattle.construct_sizes.proofs.Running.{sums}
 use Rattle.construct_sizes.proofs.Whole.{Sized, below-under, bits-under, blank, circuit-fine, circuit-small}
 use Rattle.construct_sizes.specs.Exact.{Coefs, Exact, OpExact, Products, Small}
-use Rattle.walk.proofs.Lists.{all-both, all-map}
-use Rattle.walk.specs.Lists.{All, All2, both, none}
+use Rattle.lists.proofs.Every.{all-both, all-map}
+use Rattle.lists.specs.Every.{All, All2, both, none}
 
 -- every form of the circuit, from what is known of the passes' forms
-module _ (n0 : ℕ) (ρ : ℕ → ℕ) (τ : Tables) (ε : ℕ) (le : Under τ ρ ε) (B : ℕ) where
-  fine-forms : (os : List Op) → Fine n0 ρ τ ε le B os → All (Low τ B) (opForms os)
+module _ (opsAt : ℕ) (ρ : ℕ → ℕ) (τ : Tables) (ε : ℕ) (le : Under τ ρ ε) (B : ℕ) where
+  fine-forms : (os : List Op) → Fine opsAt ρ τ ε le B os → All (Low τ B) (opForms os)
   unfolding opForms
   fine-forms [] h = tt
   fine-forms (o ∷ os) h = (h .0 .left, (h .0 .gate, fine-forms os (h .1)))
 
-  sized-forms : (ns : List Flat) (A : ℕ) → A + (1 + ε) ≤ B → 1 + ε ≤ A → Fine n0 ρ τ ε le B (build pairs ns .running .ops) → All (NOutLow τ ε A) (build pairs ns .pass .outs)
-      → All (Low τ (A + (1 + ε))) (build pairs ns .running .items) → All (Low τ B) (build pairs ns .pass .curs) → All (Low τ B) (formsOf (construct pairs ns))
+  sized-forms : (ns : List Flat) (A : ℕ) → A + (1 + ε) ≤ B → 1 + ε ≤ A → Fine opsAt ρ τ ε le B (build pairs ns .running .ops) → All (NodeReachLow τ ε A) (build pairs ns .pass .outs)
+      → All (Low τ (A + (1 + ε))) (build pairs ns .running .items) → All (Low τ B) (build pairs ns .pass .cursors) → All (Low τ B) (formsOf (construct pairs ns))
   sized-forms ns A l o f xs rs cs =
       forms-have (Low τ B) ns (fine-forms (build pairs ns .running .ops) f)
       (all-map (λ x h. (
-        low-up τ A B (x .raw .s) (h .raw .s) (omega arith),
-        low-up τ A B (x .raw .f) (h .raw .f) (omega arith),
-        low-up τ A B (x .raw .r) (h .raw .r) (omega arith),
+        low-up τ A B (x .raw .success) (h .raw .success) (omega arith),
+        low-up τ A B (x .raw .failure) (h .raw .failure) (omega arith),
+        low-up τ A B (x .raw .running) (h .raw .running) (omega arith),
         low-up τ A B (x .reached) (h .reached) (omega arith),
         low-up τ (1 + ε) B (x .halted) (h .halted) (omega arith),
       )) (build pairs ns .pass .outs) xs)
@@ -54,9 +54,9 @@ op-value ρ B o b h = record { left = h .pos; value = go (h .one) (h .left ρ (�
     go (inl u) l g = let x : P ρ (o .left) - N ρ (o .left) ≤ 1 = omega arith in omega (arith, mul-le-mul-right (P ρ (o .gate) - N ρ (o .gate)) x)
     go (inr u) l g = let x : P ρ (o .gate) - N ρ (o .gate) ≤ 1 = omega arith in omega (arith, mul-le-mul-left (P ρ (o .left) - N ρ (o .left)) x)
 
-ops-exact : (n0 : ℕ) (ρ : ℕ → ℕ) (B : ℕ) (os ps : List Op) → B ≤ 16777215 → Fine n0 ρ (Below ρ) 0 (below-under ρ) B os → All (OpExact ρ) ps → All (OpExact ρ) (reverseAux os ps)
-ops-exact n0 ρ B [] ps b h k = k
-ops-exact n0 ρ B (o ∷ os) ps b h k = ops-exact n0 ρ B os (o ∷ ps) b (h .1) (op-value ρ B o b (record { pos = h .0 .pos; one = h .0 .one; left = h .0 .left; gate = h .0 .gate }), k)
+ops-exact : (opsAt : ℕ) (ρ : ℕ → ℕ) (B : ℕ) (os ps : List Op) → B ≤ 16777215 → Fine opsAt ρ (Below ρ) 0 (below-under ρ) B os → All (OpExact ρ) ps → All (OpExact ρ) (reverseAux os ps)
+ops-exact opsAt ρ B [] ps b h k = k
+ops-exact opsAt ρ B (o ∷ os) ps b h k = ops-exact opsAt ρ B os (o ∷ ps) b (h .1) (op-value ρ B o b (record { pos = h .0 .pos; one = h .0 .one; left = h .0 .left; gate = h .0 .gate }), k)
 
 -- coefficients and biases, for at most 128 nodes
 module _ (ns : List Flat) (few : length ns ≤ 128) where
@@ -71,7 +71,7 @@ module _ (ns : List Flat) (few : length ns ≤ 128) where
   low-all =
       let z = circuit-small ns few in
       sized-forms (inputs ns) (blank ns) Bits 1 (bits-under (blank ns)) 16518 ns 16512 (omega arith) (omega arith) (z .ops) (z .outs) (z .running)
-      (all-map (λ f t. low-up Bits 2 16518 f (two-small f t) (omega arith)) (build pairs ns .pass .curs) (cursors-two ns))
+      (all-map (λ f t. low-up Bits 2 16518 f (two-small f t) (omega arith)) (build pairs ns .pass .cursors) (cursors-two ns))
 
   pub circuit-modest : All (Small 65536) (formsOf (construct pairs ns))
   circuit-modest =
@@ -80,7 +80,7 @@ module _ (ns : List Flat) (few : length ns ≤ 128) where
 
 -- a satisfied table that holds a state
 module _ (ns : List Flat) (few : length ns ≤ 128) (x : State) (cursors : (c : ℕ) → c < cellEnd 0 ns → x .cursor c ≤ 65535)
-    (ρ : ℕ → ℕ) (held : Holds ns ρ x) (sat : Sat (inputs ns) ρ (build pairs ns .running .ops)) (vs : List ℕ) (vals : All2 (Val ρ) (build pairs ns .pass .curs) vs) (low : All (λ (v : ℕ). v ≤ 65535) vs) where
+    (ρ : ℕ → ℕ) (held : Holds ns ρ x) (sat : Sat (inputs ns) ρ (build pairs ns .running .ops)) (vs : List ℕ) (vals : All2 (Val ρ) (build pairs ns .pass .cursors) vs) (low : All (λ (v : ℕ). v ≤ 65535) vs) where
   cursors-fine : {fs : List Form} {us : List ℕ} → All TwoWires fs → All2 (Val ρ) fs us → All (λ (v : ℕ). v ≤ 65535) us → All (Low (Below ρ) 8389251) fs
   cursors-fine t none l = tt
   cursors-fine t (both {a = f} {b = v} h hs) l = (low-up (Below ρ) v 8389251 f (two-below ρ f v (t .0) h) (omega (arith, l .0)), cursors-fine (t .1) hs (l .1))

@@ -8,12 +8,12 @@ use lib.ListN.{drop, length}
 use Rattle.construct.proofs.Values.{plus-law, wire-val}
 use Rattle.construct.specs.Builder.{and, not′, push}
 use Rattle.construct.specs.Circuit.{build, cellsN, cellsNC, inputs, root}
-use Rattle.construct.specs.Lower.{Flat, cellAfter, childs, down, fixed, force, invert, leaf, lost, nextCur, ordered, top, up}
-use Rattle.construct.specs.Pairs.{Entry, Form, Info, Op, pairs, plus, wire′}
+use Rattle.construct.specs.Lower.{Flat, cellAfter, children, down, fixed, force, invert, leaf, lost, nextCur, ordered, top, up}
+use Rattle.construct.specs.Pairs.{Entry, Form, Arbitration, Op, pairs, plus, wire′}
 use Rattle.construct.specs.Value.{Val}
 use Rattle.construct_sizes.proofs.Bounds.{Below, Bits, Low}
-use Rattle.walk.proofs.Lists.{all-append}
-use Rattle.walk.specs.Lists.{All}
+use Rattle.lists.proofs.Every.{all-append}
+use Rattle.lists.specs.Every.{All}
 
 -- a next cursor is the sum of two wires
 pub record TwoWires (f : Form) : Type 0 where
@@ -21,30 +21,30 @@ pub record TwoWires (f : Form) : Type 0 where
   pub b : ℕ
   pub is : f ≡ plus (wire′ a) (wire′ b)
 
-module _ (n0 nN : ℕ) where
-  next-two : (n : Flat) (c : ℕ) (r u x : Form) (os : List Op) → All TwoWires (nextCur pairs n0 nN n c r u x os .items)
+module _ (opsAt cursorsAt : ℕ) where
+  next-two : (n : Flat) (c : ℕ) (r u x : Form) (os : List Op) → All TwoWires (nextCur pairs opsAt cursorsAt n c r u x os .items)
   unfolding nextCur push
   next-two leaf c r u x os = tt
   next-two (fixed b) c r u x os = tt
   next-two invert c r u x os = tt
   next-two (force b) c r u x os = tt
-  next-two (ordered true q n) c r u x os = (record { a = n0 + length os; b = n0 + suc (length os); is = refl }, tt)
+  next-two (ordered true q n) c r u x os = (record { a = opsAt + length os; b = opsAt + suc (length os); is = refl }, tt)
   next-two (ordered false q n) c r u x os = tt
 
-  down-two : (i c : ℕ) (xs : List Info) (st : List Entry) (os : List Op) → All TwoWires (down pairs n0 nN i c xs st os .curs)
+  down-two : (i c : ℕ) (xs : List Arbitration) (st : List Entry) (os : List Op) → All TwoWires (down pairs opsAt cursorsAt i c xs st os .cursors)
   unfolding down
   down-two i c [] st os = tt
   down-two i c (x ∷ xs) st os =
-      let e = top (lost pairs n0 nN) st in
-      let h = and pairs n0 (e .called) (wire′ i) os in
-      let u = and pairs n0 (not′ pairs (e .reached)) (not′ pairs (h .form)) (h .ops) in
-      let k = nextCur pairs n0 nN (x .node) c (e .reached) (u .form) (x .cur) (u .ops) in
-      let s = childs pairs n0 nN (x .node) (e .reached) (h .form) (x .kids) (k .ops) in
-      all-append TwoWires (k .items) _ (next-two (x .node) c (e .reached) (u .form) (x .cur) (u .ops)) (down-two (suc i) (cellAfter (x .node) c) xs (s .items ++ drop 1 st) (s .ops))
+      let e = top (lost pairs opsAt cursorsAt) st in
+      let h = and pairs opsAt (e .called) (wire′ i) os in
+      let u = and pairs opsAt (not′ pairs (e .reached)) (not′ pairs (h .form)) (h .ops) in
+      let k = nextCur pairs opsAt cursorsAt (x .node) c (e .reached) (u .form) (x .cursor) (u .ops) in
+      let s = children pairs opsAt cursorsAt (x .node) (e .reached) (h .form) (x .kids) (k .ops) in
+      all-append TwoWires (k .items) _ (next-two (x .node) c (e .reached) (u .form) (x .cursor) (u .ops)) (down-two (suc i) (cellAfter (x .node) c) xs (s .items ++ drop 1 st) (s .ops))
 
-pub cursors-two : (ns : List Flat) → All TwoWires (build pairs ns .pass .curs)
+pub cursors-two : (ns : List Flat) → All TwoWires (build pairs ns .pass .cursors)
 unfolding build
-cursors-two ns = down-two (inputs ns) (cellsN ns) 0 0 (up pairs (inputs ns) (cellsN ns) (cellsNC ns) 0 0 ns .infos) (root pairs ∷ []) (up pairs (inputs ns) (cellsN ns) (cellsNC ns) 0 0 ns .ops)
+cursors-two ns = down-two (inputs ns) (cellsN ns) 0 0 (up pairs (inputs ns) (cellsN ns) (cellsNC ns) 0 0 ns .arbitrations) (root pairs ∷ []) (up pairs (inputs ns) (cellsN ns) (cellsNC ns) 0 0 ns .ops)
 
 -- so it is no larger below a table than its value in it, and at most 2 at a table of zeros and ones
 pub two-below : (ρ : ℕ → ℕ) (f : Form) (v : ℕ) → TwoWires f → Val ρ f v → Low (Below ρ) v f

@@ -17,7 +17,7 @@ use Rattle.construct_sizes.specs.Exact.{Exact, Small}
 use Rattle.tree.specs.Forest.{Forest, counts, preorder, size, width}
 use Rattle.walk.proofs.Laws.{cursors-low, read-low}
 use Rattle.walk.specs.Kind.{kindOf}
-use Rattle.walk.specs.Lists.{All}
+use Rattle.lists.specs.Every.{All}
 use Rattle.walk.specs.Walk.{answerOf, fatesOf, walk}
 
 -- coefficients and biases of the circuit of a tree of at most 128 nodes

@@ -20,9 +20,9 @@ use Rattle.construct.specs.Circuit.{build, cellEnd, cellsN, cellsNC, inputs, ro
 use Rattle.construct.specs.Lower.{Flat, down, up}
 use Rattle.construct.specs.Pairs.{constant, pairs}
 use Rattle.construct_sizes.proofs.Bounds.{Below, Bits, Fine, Low, Tables, Under, constant-low, low-up}
-use Rattle.construct_sizes.proofs.DownLow.{EntryLow, NOutLow, down-low, fine-up, flags-low}
+use Rattle.construct_sizes.proofs.DownLow.{EntryLow, NodeReachLow, down-low, fine-up, flags-low}
 use Rattle.construct_sizes.proofs.TreeLow.{UpLow, up-low}
-use Rattle.walk.specs.Lists.{All, both, none}
+use Rattle.lists.specs.Every.{All, both, none}
 use Rattle.walk.specs.Status.{Success}
 
 -- states in which every cursor is v and every leaf succeeds: with v past every child, the second table
@@ -59,7 +59,7 @@ cells-of ns ρ x h = record { leaf = leaf-held ns ρ x h; cursor = h .cursor }
 
 pub record Sized (ns : List Flat) (ρ : ℕ → ℕ) (τ : Tables) (ε : ℕ) (le : Under τ ρ ε) (B D : ℕ) : Type 0 where
   pub ops : Fine (inputs ns) ρ τ ε le D (build pairs ns .running .ops)
-  pub outs : All (NOutLow τ ε B) (build pairs ns .pass .outs)
+  pub outs : All (NodeReachLow τ ε B) (build pairs ns .pass .outs)
   pub running : All (Low τ (B + (1 + ε))) (build pairs ns .running .items)
 
 module _ (ns : List Flat) (small : length ns ≤ 128) (x : State) (ε Y B D : ℕ) (cursors : (c : ℕ) → c < cellEnd 0 ns → x .cursor c + 4 + 3 * ε ≤ Y) (four : 4 + 3 * ε ≤ Y)
@@ -68,30 +68,30 @@ module _ (ns : List Flat) (small : length ns ≤ 128) (x : State) (ε Y B D : �
       → Sat (inputs ns) ρ (build pairs ns .running .ops) → Sat (inputs ns) ρ′ (build pairs ns .running .ops) → Sized ns ρ τ ε le B D
   unfolding build
   sat-fine ρ ρ′ τ le h h′ s s′ =
-      let n0 = inputs ns in
-      let nN = cellsN ns in
-      let nC = cellsNC ns in
+      let opsAt = inputs ns in
+      let cursorsAt = cellsN ns in
+      let leavesAt = cellsNC ns in
       let C = cellEnd 0 ns in
       let L = slotEnd 0 ns in
-      let u = up pairs n0 nN nC 0 0 ns in
-      let d = down pairs n0 nN 0 0 (u .infos) (root pairs ∷ []) (u .ops) in
-      let gd = down-grows n0 nN 0 0 (u .infos) (root pairs ∷ []) (u .ops) in
-      let gf = flags-grows n0 nN (d .outs) (d .ops) in
-      let s₂ : Sat n0 ρ (d .ops) = back n0 ρ gf s in
-      let s₁ : Sat n0 ρ (u .ops) = back n0 ρ gd s₂ in
-      let s₁′ : Sat n0 ρ′ (u .ops) = back n0 ρ′ gd (back n0 ρ′ gf s′) in
+      let u = up pairs opsAt cursorsAt leavesAt 0 0 ns in
+      let d = down pairs opsAt cursorsAt 0 0 (u .arbitrations) (root pairs ∷ []) (u .ops) in
+      let gd = down-grows opsAt cursorsAt 0 0 (u .arbitrations) (root pairs ∷ []) (u .ops) in
+      let gf = flags-grows opsAt cursorsAt (d .outs) (d .ops) in
+      let s₂ : Sat opsAt ρ (d .ops) = back opsAt ρ gf s in
+      let s₁ : Sat opsAt ρ (u .ops) = back opsAt ρ gd s₂ in
+      let s₁′ : Sat opsAt ρ′ (u .ops) = back opsAt ρ′ gd (back opsAt ρ′ gf s′) in
       let cs = cells-of ns ρ x h in
       let cs′ = cells-of ns ρ′ (x′ 128) h′ in
-      let hu : UpIs ρ u (woulds (x .leafs) (x .cursor) 0 0 ns) = up-is ρ n0 nN nC (x .leafs) (x .cursor) C L cs 0 0 ns (omega arith) (omega arith) s₁ in
-      let lu = up-low n0 ρ τ ε le B Y nN nC C L 128 (x .leafs) (x .cursor) cs cursors four roomy
+      let hu : UpIs ρ u (woulds (x .leafs) (x .cursor) 0 0 ns) = up-is ρ opsAt cursorsAt leavesAt (x .leafs) (x .cursor) C L cs 0 0 ns (omega arith) (omega arith) s₁ in
+      let lu = up-low opsAt ρ τ ε le B Y cursorsAt leavesAt C L 128 (x .leafs) (x .cursor) cs cursors four roomy
       ρ′ (x′ 128 .leafs) (x′ 128 .cursor) cs′ (λ s. refl) (λ c l. omega arith) 0 0 ns (omega arith) (omega arith) small fitB s₁ s₁′ in
       let k = would-nodes (x .leafs) (x .cursor) 0 0 0 ns in
       let hr : EntryIs ρ (root pairs) (record { ticked = true; called = false }) = record { reached = constant-val ρ 1; called = constant-val ρ 0 } in
       let lr : EntryLow τ ε B (root pairs) = record { reached = low-up τ 1 B (constant 1) (constant-low τ 1) (omega arith); called = low-up τ 0 (B + 2 + 2 * ε) (constant 0) (constant-low τ 0) (omega arith) } in
-      let hd = down-is n0 nN ρ (x .flag) (x .cursor) (length ns) C (h .flag) (h .cursor) 0 0 (u .ops) (omega (arith, k .0)) (omega (arith, k .1)) (hu .infos) (both hr none) s₂ in
-      let ld = down-low n0 ρ τ ε le nN B D fitD (omega arith) (x .flag) (x .cursor) (length ns) C (h .flag) (h .cursor) (λ c l. omega (arith, cursors c l)) 0 0 (u .ops)
-      (omega (arith, k .0)) (omega (arith, k .1)) (hu .infos) (both hr none) (lu .infos) (lr, tt) (fine-up n0 ρ τ ε le B D (u .ops) (omega arith) (lu .fine)) s₂ in
-      let lf = flags-low n0 ρ τ ε le nN B D fitD (omega arith) (d .ops) (hd .outs) (ld .1) (ld .0) s in
+      let hd = down-is opsAt cursorsAt ρ (x .flag) (x .cursor) (length ns) C (h .flag) (h .cursor) 0 0 (u .ops) (omega (arith, k .0)) (omega (arith, k .1)) (hu .arbitrations) (both hr none) s₂ in
+      let ld = down-low opsAt ρ τ ε le cursorsAt B D fitD (omega arith) (x .flag) (x .cursor) (length ns) C (h .flag) (h .cursor) (λ c l. omega (arith, cursors c l)) 0 0 (u .ops)
+      (omega (arith, k .0)) (omega (arith, k .1)) (hu .arbitrations) (both hr none) (lu .arbitrations) (lr, tt) (fine-up opsAt ρ τ ε le B D (u .ops) (omega arith) (lu .fine)) s₂ in
+      let lf = flags-low opsAt ρ τ ε le cursorsAt B D fitD (omega arith) (d .ops) (hd .outs) (ld .1) (ld .0) s in
       record { ops = lf .0; outs = ld .1; running = lf .1 }
 
   pub circuit-sized : (ρ : ℕ → ℕ) → Holds ns ρ x → Sat (inputs ns) ρ (build pairs ns .running .ops) → (τ : Tables) (le : Under τ ρ ε) → Sized ns ρ τ ε le B D

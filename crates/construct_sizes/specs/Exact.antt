@@ -5,7 +5,7 @@ use lib.ListN.{take}
 use Rattle.construct.specs.Circuit.{Circuit, formsOf}
 use Rattle.construct.specs.Pairs.{Form, Op, Term}
 use Rattle.construct.specs.Value.{N, P, opVal, sumN, sumP}
-use Rattle.walk.specs.Lists.{All}
+use Rattle.lists.specs.Every.{All}
 
 -- every running sum, "the bias, then coefficient times value added in wire order", is below 2^24 in size
 abbrev pub Sums : (ℕ → ℕ) → Form → Type 0

@@ -2,6 +2,9 @@ pub mod Clauses
 pub mod Demand1
 pub mod Demand2
 pub mod Demand3
+pub mod Exact
 pub mod Left
 pub mod Once
+pub mod Permitted
+pub mod Refused
 pub mod Trees

@@ -1,4 +1,4 @@
--- Which trees compile: accepted bytes are those of one, and where enough slots are lent, every tree within the limits does. Assumes nothing.
+-- Which trees compile: accepted bytes are those of one, and where enough slots are lent, every tree within the limits does.
 use mathlib.Core.Path.{_≡_, refl, _∙_, ap, subst}
 use mathlib.Core.Bool.{true, cond}
 use mathlib.Core.List.{List, [], _∷_, map}
@@ -18,18 +18,17 @@ use Rattle.wire.specs.Storage.{opSlots, termSlots}
 use Rattle.construct.specs.Circuit.{Circuit, opCount, termCount, termsIn, formsOf}
 use Rattle.construct.specs.Pairs.{Form, pairs}
 use Rattle.construct_floats.specs.Floats.{floats}
-use Rattle.construct_faithful.specs.Float.{float, floatTerm}
-use Rattle.construct_instances.specs.Respects.{ofOp}
+use Rattle.construct_faithful.proofs.Float.{float, floatTerm}
+use Rattle.construct_instances.proofs.Respects.{ofOp}
 use Rattle.construct_means.specs.Means.{circuitOf}
 use Rattle.lower_room.proofs.CountCircuit.{ops-slots, terms-most}
 use Rattle.compile.specs.declared.Compiled.{Compiled}
 use Rattle.compile.specs.Compile.{Lent, roomy, refusal, countsOf, stored, compileTree, compileOf}
-use Rattle.compile_laws.specs.Compiles.{treeCircuit}
+use Rattle.compile_laws.proofs.Compiles.{treeCircuit}
 use Rattle.compile_laws.proofs.Shape.{in-floats}
 use Rattle.compile_laws.proofs.Images.{form-images}
 use Rattle.compile_laws.proofs.Passes.{some-node}
-use Rattle.demands.specs.Demands.{Compiles}
-use Rattle.demands.proofs.Left.{clash, passed}
+use Rattle.demands.proofs.Left.{Compiles, clash, passed}
 
 -- whatever bytes compile, they are a tree's, of which the demands speak
 pub compiled-tree : (l : Lent) (bytes : List ℕ) (n : Counts) → Bytes bytes → compileOf l bytes .answer ≡ Compiled.Accepted n
@@ -41,7 +40,8 @@ compiled-tree l bytes n b e = go (treeOf bytes) refl (passed l ShortRoom n (room
     go (refused r) q a = absurd (clash l (r .cause) (r .place) n a)
     go (accepted ks cs) q a =
         let t = accepted-tree bytes ks cs b q in
-        (t .tree, t .bytes-are, record { within = t .within; accepted = subst (λ (bs : List ℕ). compileOf l bs .answer ≡ Compiled.Accepted n) (t .bytes-are) e })
+        let same = subst (λ (bs : List ℕ). compileOf l bs .answer ≡ Compiled.Accepted n) (t .bytes-are) e in
+        (t .tree, t .bytes-are, record { within = t .within; accepted = same })
 
 -- ---- room for every tree
 
@@ -53,13 +53,15 @@ same-terms (g ∷ gs) = λ i. length-map (g .terms) floatTerm i + same-terms gs 
 module _ (f : Forest ℕ) (w : Within f) where
   op-number : opCount (treeCircuit f) ≤ 2163
   op-number =
-      let e : opCount (treeCircuit f) ≡ opCount (circuitOf f) = ap (λ (c : Circuit Affine). length (c .ops)) (in-floats f w) ∙ length-map (circuitOf f .ops) (ofOp float) in
+      let e : opCount (treeCircuit f) ≡ opCount (circuitOf f)
+      = ap (λ (c : Circuit Affine). length (c .ops)) (in-floats f w) ∙ length-map (circuitOf f .ops) (ofOp float) in
       omega (arith, ops-slots f (omega (arith, some-node f (w .one))) (w .few))
 
   term-number : termCount floats (treeCircuit f) ≤ 507904
   term-number =
       let e : termCount floats (treeCircuit f) ≡ termCount pairs (circuitOf f)
-      = ap (λ (c : Circuit Affine). termCount floats c) (in-floats f w) ∙ ap (termsIn floats) (form-images float (circuitOf f)) ∙ same-terms (formsOf (circuitOf f)) in
+      = ap (λ (c : Circuit Affine). termCount floats c) (in-floats f w)
+      ∙ ap (termsIn floats) (form-images float (circuitOf f)) ∙ same-terms (formsOf (circuitOf f)) in
       omega (arith, terms-most f, mul-le-mul (w .few) (w .few))
 
   -- with work room and fixed parts as docs/ has them, 2,163 op slots and 507,904 term slots

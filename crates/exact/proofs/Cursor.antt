@@ -1,4 +1,4 @@
--- The number of a next cursor: of a natural number of at most 65,535 it is that number, and the code's test is the definition's. Assumes nothing.
+-- The number of a next cursor: of a natural number of at most 65,535 it is that number, and the code's test is the definition's.
 use mathlib.Core.Path.{_≡_, sym, ap, _∙_, subst}
 use mathlib.Core.Bool.{Bool, _&&_, cond}
 use Prim.Native.Nat.{ℕ, _≤_}

@@ -1,4 +1,4 @@
--- The test of a natural number with no remainder: from 2^23 on whether x is finite, and below that by two sums and three comparisons. Assumes nothing.
+-- The test of a natural number with no remainder: from 2^23 on whether x is finite, and below that by two sums and three comparisons.
 use mathlib.Core.Path.{_≡_, refl, sym, ap, _∙_, subst}
 use mathlib.Core.Bool.{Bool, true, false, not, _&&_}
 use Prim.Native.Nat.{ℕ, suc, _+_, _*_, _^_, _≤_, _<_}

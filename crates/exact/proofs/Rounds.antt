@@ -1,5 +1,5 @@
 -- A test of whole floats with no remainder: from 2^23 on a float has no fraction, so adding such a number rounds to a whole one, and taking it away again gives x back if x is whole.
--- Assumes nothing.
+--
 use mathlib.Core.Path.{_≡_, sym, ap, _∙_, subst}
 use mathlib.Core.Logic.{_⊎_, inl, inr}
 use mathlib.Core.Bool.{Bool, true, false, _&&_}

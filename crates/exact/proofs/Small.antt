@@ -1,4 +1,4 @@
--- The test of a whole float of at most 65,536 in size by two sums and three comparisons. Assumes nothing.
+-- The test of a whole float of at most 65,536 in size by two sums and three comparisons.
 use mathlib.Core.Path.{_≡_, refl, sym, ap, _∙_}
 use mathlib.Core.Bool.{Bool, true, false, _&&_}
 use Prim.Native.Nat.{ℕ, _+_, _-_, _*_, _/_, _%_, _≤_}

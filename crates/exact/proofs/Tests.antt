@@ -1,5 +1,5 @@
 -- What the tests of one float tell: a float that passes is a number in one of two ways, its own float or -0 for 0, and the code's tests are those of specs/Tests.antt.
--- Assumes nothing.
+--
 use mathlib.Core.Path.{_≡_, refl, sym, ap, _∙_, subst}
 use mathlib.Core.Logic.{_⊎_, inl, inr}
 use mathlib.Core.Bool.{Bool, true, false, not, _&&_, _||_, Bool·beq, cond}
@@ -7,7 +7,7 @@ use Prim.Native.Nat.{ℕ, zero, suc, _+_, _-_, _*_, _/_, _%_, _^_, _≤_, _<_}
 use native.Mathlib.Nat.{div-add-mod', add-zero, zero-div, mul-one, one-mul, zero-mul, mul-right-comm, eq-of-mul-eq-mul-right, div-eq-of-eq-mul-left, le-trans, eq-zero-or-pos, mul-mod-left}
 use native.Mathlib.Omega.{arith}
 use lib.IntN.{ℤ, pos}
-use lib.Dec.{T, ltb, leb, eqb, ltb→lt, nltb→le, eqb→eq, leb→le}
+use lib.Dec.{T, ltb, leb, eqb, ltb→lt, nltb→le, eqb→eq}
 use lib.Pow.{pow-pos}
 use lib.Ieee.{Float, nan, inf, fin, Format, binary32, prec, up, down, round, add, lt, le, eq, fits, ofBits, level, below}
 use lib.Ieee.Fits.{down-pos, up-pos, and-i, and-l, and-r, eq→eqb}
@@ -109,17 +109,6 @@ unfolding isBit
 bit-test nan = unfold eq in refl
 bit-test (inf s) = unfold eq ofBits in refl
 bit-test (fin s m e) = λ i. zero-test (fin s m e) s (m * up e) (down e) (down-pos e) (refl, refl) i || one-test s m e i
-
--- a bit is 0 or 1
-pub bit-is : (f : Format) (x : Float) → T (fits f x) → T (isBit x) → (n : ℕ) × (n ≤ 1) × Counts f x n
-unfolding isBit
-bit-is f (fin s m e) t h = go s (eqb (m * up e) 0) (eqb→eq (m * up e) 0) h refl
-  where
-    go : (b z : Bool) → (T z → m * up e ≡ 0) → T (z || (not b && eqb (m * up e) (down e))) → s ≡ b → (n : ℕ) × (n ≤ 1) × Counts f (fin s m e) n
-    go b true k g q = (0, omega arith, counts f (fin s m e) 0 (omega arith) t (record { sign = s; value = (refl, mul-one (m * up e) ∙ k tt ∙ sym (zero-mul (down e))); nought = λ u. refl }))
-    go false false k g q =
-        (1, omega arith, counts f (fin s m e) 1 (pow-pos (prec f)) t (record { sign = false; value = (q, mul-one (m * up e) ∙ eqb→eq (m * up e) (down e) g ∙ sym (one-mul (down e))); nought = λ u. absurd u }))
-    go true false k g q = absurd g
 
 or-l : (a b : Bool) → T a → T (a || b)
 or-l true b t = tt
@@ -228,10 +217,6 @@ plus-zero x n h (inl e) =
 plus-zero x n h (inr e) = ap (λ (z : Float). add binary32 z zero32) (e .0) ∙ zero-is ∙ ap (λ (k : ℕ). diff binary32 k 0) (sym (e .1))
 
 -- ---- the positive part
-
-pub relu-nan : relu nan ≡ zero32
-unfolding relu lt ofBits
-relu-nan = refl
 
 pub relu-diff : (p q : ℕ) → Within binary32 p q → relu (diff binary32 p q) ≡ diff binary32 (p - q) 0
 unfolding relu

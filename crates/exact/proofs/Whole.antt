@@ -1,5 +1,5 @@
 -- Floats calculate with whole numbers exactly: where p - q and r - u are in range, the float of their sum is the sum of their floats, and so for the difference,
--- multiply-and-add, the order and the casts. Each law is stated once for both formats. Assumes nothing.
+-- multiply-and-add, the order and the casts. Each law is stated once for both formats.
 use mathlib.Core.Path.{_≡_, refl, sym, ap, _∙_, subst}
 use mathlib.Core.Bool.{Bool, true, false, not, _&&_, _||_, Bool·beq, cond}
 use Prim.Native.Nat.{ℕ, _+_, _-_, _*_, _^_, _≤_, _<_}
@@ -132,11 +132,6 @@ round-diff f true n p q w z = λ i. round f (sym (lt-ltb p q lt') i) (size i) 1
 
     size : n ≡ dist p q
     size = omega arith
-
--- the value of p - q, and that it fits
-pub diff-fits : (f : Format) (p q : ℕ) → T (fits f (diff f p q))
-unfolding diff
-diff-fits f p q = round-fits f (ltb p q) (dist p q) 1
 
 pub diff-value : (f : Format) (p q : ℕ) → Within f p q → HasValue (diff f p q) (ltb p q) (dist p q) 1
 unfolding diff

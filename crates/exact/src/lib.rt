@@ -6,13 +6,6 @@ ghost use lib.Ieee.{binary32};
 ghost use Rattle.exact.specs.Whole.{diff};
 ghost use Rattle.exact.specs.Tests.{isBit, natural, small, coefficient, relu, countOf};
 
-// A flag, as the float of its cell.
-pub fn of_byte(b: u8) -> f32
-    ensures { λ r. ⌜ r ≡ diff binary32 b 0 ⌝ }
-{
-    b as f32
-}
-
 // A cursor, as the float of its cell: read as 65,535 if larger.
 pub fn of_cursor(c: u32) -> f32
     ensures { λ r. ⌜ r ≡ diff binary32 (min c 65535) 0 ⌝ }

@@ -1,4 +1,4 @@
--- The end of the input, and bytes that move to the front. Assumes nothing.
+-- The end of the input, and bytes that move to the front.
 use mathlib.Core.Path.{_≡_, refl, sym, _∙_, ap, subst}
 use mathlib.Core.Bool.{Bool, true, false, cond}
 use mathlib.Core.List.{List, [], _∷_}

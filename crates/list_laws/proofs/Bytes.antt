@@ -1,6 +1,6 @@
--- The records of a tree within the limits and of valid rows are of bytes: each length fits into its two. Assumes nothing.
+-- The records of a tree within the limits and of valid rows are of bytes: each length fits into its two.
 use mathlib.Core.List.{List, [], _∷_, _++_}
-use Prim.Native.Nat.{ℕ, _+_, _*_, _≤_, _<_}
+use Prim.Native.Nat.{ℕ, _*_, _≤_, _<_}
 use native.Mathlib.Omega.{arith}
 use lib.ListN.{length, length-append}
 use Rattle.tree_kinds.specs.Kinds.{rowOf}
@@ -9,7 +9,7 @@ use Rattle.tree_kinds.specs.declared.Family.the-variants.{Leaf, Composite, Deco
 use Rattle.tree.specs.Forest.{Forest, none, node, width, size}
 use Rattle.tree.specs.Bytes.{Bytes, payload, recordBytes, Within, bytesOf}
 use Rattle.tree_laws.proofs.Exact.{tree-bytes}
-use Rattle.walk.specs.Lists.{All}
+use Rattle.lists.specs.Every.{All}
 use Rattle.plan_laws.proofs.Nodes.{leaves-count, leaves-few}
 use Rattle.demands.specs.Demands.{ValidRow}
 use Rattle.list_rows.specs.Rows.{rowKind}

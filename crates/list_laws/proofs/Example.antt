@@ -1,11 +1,11 @@
--- Document 01's example of the listing program: a Sequence of two leaves, and two rows. Assumes nothing.
+-- Document 01's example of the listing program: a Sequence of two leaves, and two rows.
 use mathlib.Core.Path.{_≡_, refl, _∙_, ap}
 use mathlib.Core.List.{List, [], _∷_}
 use Prim.Native.Nat.{ℕ}
 use native.Mathlib.Omega.{arith}
 use Rattle.tree_kinds.specs.Kinds.{rows, rowOf}
 use Rattle.text.specs.Text.{decimalIn, decimal}
-use Rattle.walk.specs.Lists.{All}
+use Rattle.lists.specs.Every.{All}
 use Rattle.walk.specs.Kind.{kindOf}
 use Rattle.walk.specs.Walk.{walk}
 use Rattle.walk.specs.Cards.{sequence}

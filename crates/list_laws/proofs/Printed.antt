@@ -1,10 +1,10 @@
--- However a tree and valid rows come in pieces, the program's machine prints the lines of the direct walk. Assumes nothing.
+-- However a tree and valid rows come in pieces, the program's machine prints the lines of the direct walk.
 use mathlib.Core.Path.{_≡_, _∙_, ap}
 use mathlib.Core.List.{List, []}
 use Prim.Native.Nat.{ℕ, _+_, _≤_, _<_}
 use Rattle.tree.specs.Forest.{Forest}
 use Rattle.tree.specs.Bytes.{Within}
-use Rattle.walk.specs.Lists.{All}
+use Rattle.lists.specs.Every.{All}
 use Rattle.demands.specs.Demands.{ValidRow}
 use Rattle.list_text.specs.Line.{lineRoom}
 use Rattle.list_rows.specs.Listing.{storageLent, listing}

@@ -1,4 +1,4 @@
--- A record that is written is read as it was written. Assumes nothing.
+-- A record that is written is read as it was written.
 use mathlib.Core.Path.{_≡_, sym, _∙_, ap}
 use mathlib.Core.List.{List, [], _++_, append-nil}
 use Prim.Native.Nat.{ℕ, _+_, _*_, _-_, _/_, _%_}

@@ -1,30 +1,30 @@
--- What is listed of a tree within the limits and valid rows is the lines of the direct walk. Assumes nothing.
+-- What is listed of a tree within the limits and valid rows is the lines of the direct walk.
 use mathlib.Core.Path.{_≡_, refl, sym, _∙_, ap}
 use mathlib.Core.Bool.{true}
 use mathlib.Core.List.{List, [], _∷_, _++_}
-use Prim.Native.Nat.{ℕ, zero, suc, _+_, _≤_}
+use Prim.Native.Nat.{ℕ, zero, suc, _≤_}
 use native.Mathlib.Omega.{arith}
 use borrow.Author.Tests.{le-leb, leb-true}
 use lib.ListN.{length, take, drop, replicate, length-replicate, drop-of-length-le}
 use lib.Seq.{take-at}
 use Rattle.exact.specs.Whole.{zero32}
-use Rattle.tree.specs.Forest.{Forest, preorder, counts}
+use Rattle.tree.specs.Forest.{Forest, preorder}
 use Rattle.tree.specs.Bytes.{Within, bytesOf}
-use Rattle.walk.specs.Lists.{All}
+use Rattle.lists.specs.Every.{All}
 use Rattle.walk.specs.Walk.{Answer, walk}
 use Rattle.walk.proofs.Laws.{lengths}
 use Rattle.tick_check.specs.Check.{Stored}
 use Rattle.tick_lane.specs.Evaluate.{tableOf}
+use Rattle.tick_lane.proofs.Cells.{table-length}
 use Rattle.tick_lane.specs.Lane.{Lent, lent, accepted}
 use Rattle.compile.specs.declared.Compiled.{Compiled}
 use Rattle.compile.specs.Compile as compile
-use Rattle.compile_laws.specs.Compiles.{treeCircuit, storedOf, Slots}
+use Rattle.compile_laws.proofs.Compiles.{treeCircuit, storedOf, Slots}
 use Rattle.tree.proofs.Lengths.{preorder-length}
 use Rattle.plan_laws.proofs.Nodes.{leaves-count, cursors-count, leaves-few, cursors-few}
-use Rattle.demands.specs.Demands.{Compiles, ValidRow, Ready, over, walked}
-use Rattle.demands.proofs.Left.{left-by}
-use Rattle.demands.proofs.Once.{ticks}
-use Rattle.demands.proofs.Clauses.{ready-next}
+use Rattle.demands.specs.Demands.{ValidRow, Ready, over, walked}
+use Rattle.demands.proofs.Left.{Compiles, left-by}
+use Rattle.demands.proofs.Once.{ticks, state-next}
 use Rattle.demands.proofs.Trees.{compiles-all}
 use Rattle.list_text.specs.declared.outer.Outer.{Outer}
 use Rattle.list_text.specs.Line.{tickLine, lineOf}
@@ -107,17 +107,16 @@ module _ (f : Forest ℕ) (w : Within f) where
         ∙ ap (λ (l : List ℕ). printed .text ++ restOf s (l ++ more) (nextNumber number) next) (drop-of-length-le (outerRecord rowKind row) {i = ends rowKind row} (omega (arith, record-length rowKind row)))
 
     still-ready : Ready f (s .counts) (given next)
-    unfolding walked
     still-ready =
-        let r = ready-next f w storageLent slots row (given k) valid ready in
+        let room = ready .room in
         record {
-          flags-long = r .flags-long;
-          flags-low = r .flags-low;
-          cursors-long = r .cursors-long;
-          values-room = r .values-room;
-          statuses-room = ready .statuses-room;
-          halts-room = ready .halts-room;
-          edges-room = ready .edges-room;
+          state = state-next f (k .flags) (k .cursors) row;
+          room = record {
+            values = omega (arith, table-length s row (k .flags) (k .cursors) (k .values), room .values);
+            statuses = room .statuses;
+            halts = room .halts;
+            edges = room .edges;
+          };
         }
 
   -- ---- row after row
@@ -141,13 +140,12 @@ module _ (f : Forest ℕ) (w : Within f) where
       let cells-low = cursors-few f (w .lowered) (w .few) in
       let ops = slots .in-nums in
       record {
-        flags-long = length-replicate (s .counts .nodes) 0 ∙ nodes;
-        flags-low = zeros-low (s .counts .nodes);
-        cursors-long = length-replicate (s .counts .cursors) 0 ∙ cursors-count f (w .lowered) (w .few);
-        values-room = omega (arith, length-replicate valuesLent zero32);
-        statuses-room = omega arith;
-        halts-room = omega arith;
-        edges-room = omega arith;
+        state = record {
+          flags-long = length-replicate (s .counts .nodes) 0 ∙ nodes;
+          flags-low = zeros-low (s .counts .nodes);
+          cursors-long = length-replicate (s .counts .cursors) 0 ∙ cursors-count f (w .lowered) (w .few);
+        };
+        room = record { values = omega (arith, length-replicate valuesLent zero32); statuses = omega arith; halts = omega arith; edges = omega arith };
       }
 
   begun : (more : List ℕ) → listing (outerRecord treeKind (bytesOf f) ++ more) ≡ restOf s more 0 (atFirst (s .counts))

@@ -1,4 +1,4 @@
--- From the front of the input, whether more follows or not, to the listing of all of it. Assumes nothing.
+-- From the front of the input, whether more follows or not, to the listing of all of it.
 use mathlib.Core.Path.{_≡_, refl, sym, ap, subst}
 use mathlib.Core.Bool.{Bool, true, false, cond, true≢false, false≢true}
 use mathlib.Core.List.{List, _++_}

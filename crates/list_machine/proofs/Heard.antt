@@ -1,4 +1,4 @@
--- However the input is cut into pieces, the machine prints the listing of the whole. Assumes nothing.
+-- However the input is cut into pieces, the machine prints the listing of the whole.
 use mathlib.Core.Path.{_≡_, refl, sym, _∙_, ap}
 use mathlib.Core.Bool.{Bool, true, false}
 use mathlib.Core.List.{List, [], _∷_, _++_, append-nil, append-assoc}

@@ -1,4 +1,4 @@
--- Where the machine waits for more, a buffer of 131,072 bytes has room for it. Assumes nothing.
+-- Where the machine waits for more, a buffer of 131,072 bytes has room for it.
 use mathlib.Core.Path.{_≡_, refl, subst}
 use mathlib.Core.Bool.{Bool, true, false, cond}
 use mathlib.Core.List.{List, [], _∷_}

@@ -1,4 +1,4 @@
--- However rows are cut into pieces, the machine prints what the rows of all pieces joined give. Assumes nothing.
+-- However rows are cut into pieces, the machine prints what the rows of all pieces joined give.
 use mathlib.Core.Path.{_≡_, refl, sym, _∙_, ap, subst}
 use mathlib.Core.Bool.{Bool, true, false, cond}
 use mathlib.Core.List.{List, [], _∷_, _++_, append-nil, append-assoc}

@@ -1,4 +1,4 @@
--- Every line fits into a line's room. Assumes nothing.
+-- Every line fits into a line's room.
 use mathlib.Core.Path.{_≡_, refl}
 use mathlib.Core.Bool.{Bool, true, false, cond}
 use mathlib.Core.List.{List, [], _∷_, _++_}

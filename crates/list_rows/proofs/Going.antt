@@ -1,4 +1,4 @@
--- The loop over rows: what is printed so far, and that the rest is still to come. Assumes nothing.
+-- The loop over rows: what is printed so far, and that the rest is still to come.
 use mathlib.Core.Path.{_≡_, refl, sym, _∙_, ap, subst}
 use mathlib.Core.Bool.{Bool, true, false}
 use mathlib.Core.List.{List, [], _++_, append-assoc}

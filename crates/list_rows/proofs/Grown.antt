@@ -1,4 +1,4 @@
--- A record that stands whole in some bytes, or is bad, is the same where more bytes follow. Assumes nothing.
+-- A record that stands whole in some bytes, or is bad, is the same where more bytes follow.
 use mathlib.Core.Path.{_≡_, refl, _∙_, ap}
 use mathlib.Core.Bool.{Bool, true, false, cond}
 use mathlib.Core.List.{List, _++_}

@@ -1,4 +1,4 @@
--- A step on the rest of a buffer, and what it leaves in the whole. Assumes nothing.
+-- A step on the rest of a buffer, and what it leaves in the whole.
 use mathlib.Core.Path.{_≡_, sym, _∙_, ap, subst}
 use mathlib.Core.Bool.{Bool}
 use mathlib.Core.List.{List, _++_, append-nil}

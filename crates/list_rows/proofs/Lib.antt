@@ -7,4 +7,3 @@ pub mod Seamless
 pub mod Shown
 pub mod Steps
 pub mod Turns
-pub mod Unique

@@ -1,5 +1,5 @@
 -- No row is lost where a buffer ends: what a run over some bytes printed, and then what is left of them with all that follows, is what there was to
--- list. Assumes nothing.
+-- list.
 use mathlib.Core.Path.{_≡_, refl, sym, _∙_, ap}
 use mathlib.Core.Bool.{Bool, true, false, cond, not, true≢false}
 use mathlib.Core.List.{List, [], _++_, append-nil, append-assoc}

@@ -1,4 +1,4 @@
--- A row's line or refusal, out of what the tick told. Assumes nothing.
+-- A row's line or refusal, out of what the tick told.
 use mathlib.Core.Path.{_≡_, refl, sym, _∙_, ap}
 use mathlib.Core.Bool.{Bool, true, false}
 use mathlib.Core.List.{List}

@@ -1,4 +1,4 @@
--- Where a whole record lies; a step by what stands first, and what it leaves. Assumes nothing.
+-- Where a whole record lies; a step by what stands first, and what it leaves.
 use mathlib.Core.Path.{_≡_, refl, sym, _∙_, ap, subst}
 use mathlib.Core.Bool.{Bool, true, false, cond, not}
 use mathlib.Core.List.{List}

@@ -1,4 +1,4 @@
--- What a step prints fits and what it reads is there; the three ways through a turn. Assumes nothing.
+-- What a step prints fits and what it reads is there; the three ways through a turn.
 use mathlib.Core.Path.{_≡_}
 use mathlib.Core.Bool.{Bool, true, false, cond, false≢true}
 use mathlib.Core.List.{List, _++_}

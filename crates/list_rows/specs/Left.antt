@@ -1,4 +1,4 @@
--- What the functions leave, against what the definitions say. Definitions only.
+-- What the functions leave, against what the definitions say. Inner: the shape of the code; nobody need believe it.
 use Prim.Native.Nat.{ℕ}
 use mathlib.Core.Path.{_≡_}
 use mathlib.Core.Bool.{Bool}

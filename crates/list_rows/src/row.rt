@@ -4,7 +4,6 @@ use list_text::write_refused;
 use tick_refusal::of_ticked;
 use wire::Counts;
 ghost use mathlib.Core.Path.{_≡_};
-ghost use Prim.Native.Nat.{_≤_};
 ghost use lib.ListN.{length, take};
 ghost use Rattle.tick_check.specs.Check.{stored};
 ghost use Rattle.text.specs.Text.{placed};

@@ -1,4 +1,4 @@
--- What the front of the input leaves, by what stands there. Assumes nothing.
+-- What the front of the input leaves, by what stands there.
 use mathlib.Core.Path.{_≡_, refl, sym, _∙_, ap, subst}
 use mathlib.Core.Bool.{Bool, true, false}
 use mathlib.Core.List.{List}

@@ -1,6 +1,6 @@
 -- Which lists have a line.
--- Assumes nothing.
-use mathlib.Core.Path.{_≡_, refl, sym}
+--
+use mathlib.Core.Path.{_≡_}
 use mathlib.Core.Bool.{true, false, _&&_}
 use mathlib.Core.List.{List}
 use Prim.Native.Nat.{ℕ, _≤_}

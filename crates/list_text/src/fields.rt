@@ -2,7 +2,7 @@
 use text::append;
 use text::append_decimal;
 ghost use mathlib.Core.Path.{_≡_};
-ghost use Prim.Native.Nat.{_+_, _*_, _≤_, _<_};
+ghost use Prim.Native.Nat.{_+_, _*_, _≤_};
 ghost use mathlib.Core.List.{_++_, map};
 ghost use lib.ListN.{length, take, drop, getD};
 ghost use Rattle.text.specs.Text.{Appended};

@@ -1,4 +1,4 @@
--- Lists by index: length, one entry, two parts, and when they are equal. Assumes nothing.
+-- Lists by index: length, one entry, two parts, and when they are equal.
 use mathlib.Core.Path.{_≡_, refl, sym, ap, _∙_}
 use mathlib.Core.List.{List, [], _∷_, _++_}
 use Prim.Native.Nat.{ℕ, zero, suc, _+_, _≤_, _<_}

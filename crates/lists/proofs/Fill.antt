@@ -1,4 +1,4 @@
--- A list that is written at successive indices: what a loop finds of it, and that from 0 on it is a prefix. Assumes nothing.
+-- A list that is written at successive indices: what a loop finds of it, and that from 0 on it is a prefix.
 use mathlib.Core.Path.{_≡_, refl, sym, ap, _∙_}
 use mathlib.Core.List.{List, [], _∷_, _++_, append-assoc}
 use Prim.Native.Nat.{ℕ, zero, suc, _+_, _≤_}

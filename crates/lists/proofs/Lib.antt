@@ -1,4 +1,5 @@
 pub mod Entries
+pub mod Every
 pub mod Fill
 pub mod Sets
 pub mod Tests

@@ -1,4 +1,4 @@
--- Lists that are stored one after the other in a longer one, read back by index. Assumes nothing.
+-- Lists that are stored one after the other in a longer one, read back by index.
 use mathlib.Core.Path.{_≡_, refl, _∙_, ap}
 use mathlib.Core.List.{List, [], _∷_, map}
 use Prim.Native.Nat.{ℕ, zero, suc, _+_, _≤_, _<_}

@@ -1,4 +1,4 @@
--- Conjunctions, and a test of each index below a number. Assumes nothing.
+-- Conjunctions, and a test of each index below a number.
 use mathlib.Core.Path.{_≡_, refl, sym, ap, _∙_}
 use mathlib.Core.Bool.{Bool, true, false, _&&_}
 use mathlib.Core.Logic.{⊎-elim}
@@ -19,6 +19,9 @@ pub both-right : (a b : Bool) → a && b ≡ true → b ≡ true
 both-right true b e = e
 both-right false true e = refl
 both-right false false e = e
+
+pub both-sides : (a b : Bool) → a && b ≡ true → (a ≡ true) × (b ≡ true)
+both-sides a b e = (both-left a b e, both-right a b e)
 
 pub fails-left : (a b : Bool) → a ≡ false → false ≡ a && b
 fails-left a b e = rw e

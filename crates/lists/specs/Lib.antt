@@ -1,3 +1,4 @@
 pub mod All
 pub mod Each
+pub mod Every
 pub mod Fill

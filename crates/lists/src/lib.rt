@@ -1,1 +1,1 @@
-// Definitions and laws alone: a list that is written at successive indices and nowhere else.
+// Definitions and laws alone: lists by index, written entry after entry, tested at every index, stored one after the other.

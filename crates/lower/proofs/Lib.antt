@@ -1,1 +1,1 @@
-pub mod Lowered
+pub mod Answers

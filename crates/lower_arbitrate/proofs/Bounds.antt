@@ -1,4 +1,4 @@
--- A step keeps the pass within its bounds. Assumes nothing.
+-- A step keeps the pass within its bounds.
 use Prim.Native.Nat.{ℕ}
 use native.Mathlib.Omega.{arith}
 use mathlib.Core.Path.{_≡_, refl}

@@ -1,4 +1,4 @@
--- What the composites' code leaves, as chains of what its callees leave; and what a composite that is ready has. Assumes nothing.
+-- What the composites' code leaves, as chains of what its callees leave; and what a composite that is ready has.
 use Prim.Native.Nat.{ℕ, _+_, _-_, _≤_, _<_}
 use mathlib.Core.Path.{_≡_}
 use mathlib.Core.Bool.{Bool, true, false, _&&_}
@@ -9,7 +9,7 @@ use borrow.Author.Tests.{ltb-true, leb-true}
 use Rattle.exact.specs.Whole.{zero32}
 use Rattle.wire.specs.declared.Form.{Form}
 use Rattle.wire.specs.Terms.{constantForm}
-use Rattle.arena.proofs.Outcome.{and-true}
+use Rattle.lists.proofs.Tests.{both-sides}
 use Rattle.construct.specs.Lower.{ordered}
 use Rattle.builder_table.specs.declared.Builder.{Builder}
 use Rattle.builder_table.specs.Work.{Mem, mem, Ended}
@@ -31,7 +31,7 @@ module _ (m : Mem) (b : Builder) (cursor : Form) {on : Bool} (top row n : ℕ) {
 module _ (m : Mem) (u : Up) (i : ℕ) where
   pub composite-made : (on : Bool) (cursor : Form) (n : ℕ) {o : Ordains} {x : StatusBits} {m₁ : Mem} {nums : List ℕ} {biases : List Float}
       → o ≡ loweredIn m (u .builder) cursor on (u .depth - 1) (u .row) n → x ≡ statusOf on (o .ordered) → m₁ ≡ rawIn (o .mem) i (u .depth - n) x
-      → Saves (m₁ .nums) (m₁ .biases) (arbitratedFrom + i) (o .ordered .cur) nums biases
+      → Saves (m₁ .nums) (m₁ .biases) (arbitratedFrom + i) (o .ordered .cursor) nums biases
       → _≡_ {A = Raised} (record { mem = mem (m₁ .wires) (m₁ .coefs) nums biases; up = up (o .ordered .builder) (u .depth - n + 1) (u .row + n) (u .slot) (u .cell) }) (compositeIn m u i on cursor n)
   unfolding compositeIn
   composite-made on cursor n d e f s = rw (s .0, s .1, f, e, d)
@@ -57,13 +57,13 @@ Fits u n = (0 < n) × (n ≤ u .depth) × (u .row + n ≤ 128)
 module _ (u : Up) {memory : Bool} (on : Bool) (n : ℕ) where
   pub memory-fits : memory ≡ true → ready u (ordered memory on n) ≡ true → Fits u n × (0 < u .cell)
   memory-fits t e =
-      let a = and-true (ltb 0 n) (leb n (u .depth) && (leb (u .row + n) 128 && ltb 0 (u .cell))) (rw t at e) in
-      let b = and-true (leb n (u .depth)) (leb (u .row + n) 128 && ltb 0 (u .cell)) (a .1) in
-      let c = and-true (leb (u .row + n) 128) (ltb 0 (u .cell)) (b .1) in
+      let a = both-sides (ltb 0 n) (leb n (u .depth) && (leb (u .row + n) 128 && ltb 0 (u .cell))) (rw t at e) in
+      let b = both-sides (leb n (u .depth)) (leb (u .row + n) 128 && ltb 0 (u .cell)) (a .1) in
+      let c = both-sides (leb (u .row + n) 128) (ltb 0 (u .cell)) (b .1) in
       ((ltb-true 0 n (a .0), leb-true n (u .depth) (b .0), leb-true (u .row + n) 128 (c .0)), ltb-true 0 (u .cell) (c .1))
 
   pub reactive-fits : memory ≡ false → ready u (ordered memory on n) ≡ true → Fits u n
   reactive-fits t e =
-      let a = and-true (ltb 0 n) (leb n (u .depth) && leb (u .row + n) 128) (rw t at e) in
-      let b = and-true (leb n (u .depth)) (leb (u .row + n) 128) (a .1) in
+      let a = both-sides (ltb 0 n) (leb n (u .depth) && leb (u .row + n) 128) (rw t at e) in
+      let b = both-sides (leb n (u .depth)) (leb (u .row + n) 128) (a .1) in
       (ltb-true 0 n (a .0), leb-true n (u .depth) (b .0), leb-true (u .row + n) 128 (b .1))

@@ -1,4 +1,4 @@
--- Kinds by number, and what a node asks for, by tests. Assumes nothing.
+-- Kinds by number, and what a node asks for, by tests.
 use Prim.Native.Nat.{ℕ, zero, suc, _+_, _≤_, _<_}
 use native.Mathlib.Omega.{arith}
 use mathlib.Core.Path.{_≡_, refl}

@@ -1,4 +1,4 @@
--- What the nodes' code leaves, as chains of what its callees leave. Assumes nothing.
+-- What the nodes' code leaves, as chains of what its callees leave.
 use Prim.Native.Nat.{ℕ, _+_, _-_, _*_}
 use mathlib.Core.Path.{_≡_}
 use mathlib.Core.Bool.{Bool, true}

@@ -1,11 +1,10 @@
--- A status in the table, as chains of what `save` leaves. Assumes nothing.
+-- A status in the table, as chains of what `save` leaves.
 use Prim.Native.Nat.{ℕ, _+_}
 use mathlib.Core.Path.{_≡_, ap, _∙_}
 use mathlib.Core.List.{List}
 use lib.Ieee.{Float}
 use Rattle.builder_table.proofs.Saved.{Saves}
-use Rattle.wire.specs.declared.Form.{Form}
-use Rattle.builder_table.specs.Work.{Mem, mem, saved, savedNums, savedBiases}
+use Rattle.builder_table.specs.Work.{Mem, mem, saved}
 use Rattle.status.specs.declared.StatusBits.{StatusBits}
 use Rattle.builder_table.specs.Slots.{rawSuccessFrom, rawFailureFrom, rawRunningFrom, stackSuccessFrom, stackFailureFrom, stackRunningFrom}
 use Rattle.lower_passes.specs.Arbitrate.{rawIn}

@@ -1,4 +1,4 @@
--- The turns of the loop over all nodes: what is left to do, from where it stands, is what was to do. Assumes nothing.
+-- The turns of the loop over all nodes: what is left to do, from where it stands, is what was to do.
 use Prim.Native.Nat.{ℕ, suc, _-_, _≤_, _<_}
 use native.Mathlib.Omega.{arith}
 use mathlib.Core.Path.{_≡_, ap, _∙_}

@@ -1,10 +1,10 @@
--- A node by its family: what it has where it is ready, and what its code leaves. Assumes nothing.
+-- A node by its family: what it has where it is ready, and what its code leaves.
 use Prim.Native.Nat.{ℕ, _<_}
 use mathlib.Core.Path.{_≡_}
 use mathlib.Core.Bool.{Bool, true, false}
 use lib.Dec.{ltb}
 use borrow.Author.Tests.{ltb-true}
-use Rattle.arena.proofs.Outcome.{and-true}
+use Rattle.lists.proofs.Tests.{both-sides}
 use Rattle.construct.specs.Lower as L
 use Rattle.builder_table.specs.Work.{Mem}
 use Rattle.builder_table.specs.Steps.{fullBuilder}
@@ -18,7 +18,7 @@ use Rattle.lower_passes.specs.Arbitrate.{Raised, up, stuck, leafIn, fixedIn, in
 module _ (u : Up) {node : Flat} where
   pub leaf-ready : node ≡ Flat.Leaf → ready u (flatOf node) ≡ true → (u .depth < 128) × (0 < u .slot)
   leaf-ready h e =
-      let a = and-true (ltb (u .depth) 128) (ltb 0 (u .slot)) (rw h at e) in
+      let a = both-sides (ltb (u .depth) 128) (ltb 0 (u .slot)) (rw h at e) in
       (ltb-true (u .depth) 128 (a .0), ltb-true 0 (u .slot) (a .1))
 
   pub fixed-ready : {own : Bool} → node ≡ Flat.Fixed own → ready u (flatOf node) ≡ true → u .depth < 128

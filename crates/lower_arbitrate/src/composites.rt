@@ -105,10 +105,10 @@ fn up_composite(
         n,
     );
     let x = status_of(on, o);
-    let cur = o.cur;
+    let decided = o.cursor;
     let next = o.builder;
     crate::state::put_raw(nums, biases, i, depth - n, x);
-    builder_table::save(nums, biases, Table::ARBITRATED + i, cur);
+    builder_table::save(nums, biases, Table::ARBITRATED + i, decided);
     Up {
         builder: next,
         depth: depth - n + 1,

@@ -8,3 +8,4 @@ pub mod Plain
 pub mod Raw
 pub mod Stack
 pub mod Step
+pub mod Upward

@@ -1,4 +1,4 @@
--- A node's status written and put on the stack: it stands in both places, and all other slots are as they were. Assumes nothing.
+-- A node's status written and put on the stack: it stands in both places, and all other slots are as they were.
 use Prim.Native.Nat.{ℕ, _+_, _≤_, _<_}
 use native.Mathlib.Omega.{arith}
 use mathlib.Core.Path.{_≡_, refl, sym, subst, _∙_}
@@ -7,24 +7,24 @@ use lib.ListN.{length, length-map}
 use Rattle.wire.specs.declared.Form.{Form}
 use Rattle.wire.specs.Terms.{Affine}
 use Rattle.construct.specs.Builder.{Op}
-use Rattle.construct.specs.Lower.{Trip}
+use Rattle.construct.specs.Lower.{StatusBits as Bits}
 use Rattle.builder_table.specs.declared.Builder.{Builder}
 use Rattle.builder_table.specs.Work.{Mem, Whole, loaded, saved}
 use Rattle.builder_laws.specs.Table.{Stands}
 use Rattle.builder_laws.proofs.Table.{saved-own, saved-other}
-use Rattle.builder_laws.specs.Runs.{Runs, StackAt}
+use Rattle.builder_laws.proofs.Running.{Runs, StackAt}
 use Rattle.builder_laws.proofs.Runs.{Ready, keeps-saved, whole-kept, stack-kept, saved-runs, runs-then, ready-after}
 use Rattle.status.specs.declared.StatusBits.{StatusBits}
 use Rattle.builder_table.specs.Slots.{rawSuccessFrom, rawFailureFrom, rawRunningFrom, stackSuccessFrom, stackFailureFrom, stackRunningFrom, opsFrom}
 use Rattle.lower_passes.specs.Arbitrate.{rawIn}
-use Rattle.lower_ordered_laws.specs.Passes.{RawAt, TripsAt}
-use Rattle.lower_arbitrate_laws.specs.Upward.{None}
+use Rattle.lower_ordered_laws.proofs.Passes.{RawAt, StatusesAt}
+use Rattle.lower_arbitrate_laws.proofs.Upward.{None}
 
 -- three forms stand for a status
-pub record BitsAt (m : Mem) (b : Builder) (x : StatusBits) (t : Trip Affine) : Type 0 where
-  pub s : Stands m b (x .success .0) (t .s)
-  pub f : Stands m b (x .failure .0) (t .f)
-  pub r : Stands m b (x .running .0) (t .r)
+pub record BitsAt (m : Mem) (b : Builder) (x : StatusBits) (t : Bits Affine) : Type 0 where
+  pub success : Stands m b (x .success .0) (t .success)
+  pub failure : Stands m b (x .failure .0) (t .failure)
+  pub running : Stands m b (x .running .0) (t .running)
 
 -- none of the six slots
 abbrev pub Unwritten : ℕ → ℕ → ℕ → Type 0
@@ -103,21 +103,21 @@ module _ (m : Mem) (b : Builder) (i d : ℕ) (x : StatusBits) (hi : i < 128) (hd
     low k l =
         saved-other m5 (stackRunningFrom + d) r k (λ q. omega arith) ∙ saved-other m4 (stackFailureFrom + d) f k (λ q. omega arith) ∙ saved-other m3 (stackSuccessFrom + d) s k (λ q. omega arith)
 
-    pub raw-at : {t : Trip Affine} → BitsAt m b x t → RawAt (rawIn m i d x) b i t
+    pub raw-at : {t : Bits Affine} → BitsAt m b x t → RawAt (rawIn m i d x) b i t
     unfolding rawIn
     raw-at h =
         record {
-          s =
+          success =
               stands-as m6 b
               (low (rawSuccessFrom + i) (omega arith) ∙ saved-other m2 (rawRunningFrom + i) r (rawSuccessFrom + i) (λ q. omega arith) ∙ saved-other m1 (rawFailureFrom + i) f (rawSuccessFrom + i) (λ q. omega arith) ∙ saved-own m (rawSuccessFrom + i) s w (omega arith))
-              (h .s);
-          f = stands-as m6 b (low (rawFailureFrom + i) (omega arith) ∙ saved-other m2 (rawRunningFrom + i) r (rawFailureFrom + i) (λ q. omega arith) ∙ saved-own m1 (rawFailureFrom + i) f w1 (omega arith)) (h .f);
-          r = stands-as m6 b (low (rawRunningFrom + i) (omega arith) ∙ saved-own m2 (rawRunningFrom + i) r w2 (omega arith)) (h .r);
+              (h .success);
+          failure = stands-as m6 b (low (rawFailureFrom + i) (omega arith) ∙ saved-other m2 (rawRunningFrom + i) r (rawFailureFrom + i) (λ q. omega arith) ∙ saved-own m1 (rawFailureFrom + i) f w1 (omega arith)) (h .failure);
+          running = stands-as m6 b (low (rawRunningFrom + i) (omega arith) ∙ saved-own m2 (rawRunningFrom + i) r w2 (omega arith)) (h .running);
         }
 
-    module _ {n : ℕ} {os : List (Op Affine)} (q : Ready n m b os) {t : Trip Affine} (ts : List (Trip Affine)) (e : length ts ≡ d) (h : BitsAt m b x t) (a : TripsAt m b ts) where
+    module _ {n : ℕ} {os : List (Op Affine)} (q : Ready n m b os) {t : Bits Affine} (ts : List (Bits Affine)) (e : length ts ≡ d) (h : BitsAt m b x t) (a : StatusesAt m b ts) where
       -- on top of the stack from `base` on
-      pushed : (base : ℕ) (p : Trip Affine → Affine) → base + 128 ≤ opsFrom → ((k : ℕ) → base ≤ k → k < base + d → Unwritten i d k)
+      pushed : (base : ℕ) (p : Bits Affine → Affine) → base + 128 ≤ opsFrom → ((k : ℕ) → base ≤ k → k < base + d → Unwritten i d k)
           → Stands (rawIn m i d x) b (loaded (rawIn m i d x) (base + d)) (p t) → StackAt m b base (map p ts) → StackAt (rawIn m i d x) b base (p t ∷ map p ts)
       pushed base p l k z y =
           let c : length (map p ts) ≡ d = length-map ts p ∙ e in (
@@ -125,14 +125,14 @@ module _ (m : Mem) (b : Builder) (i d : ℕ) (x : StatusBits) (hi : i < 128) (hd
             stack-kept (raw-runs q .keeps) base (map p ts) (omega arith) (λ j g o. k j g (omega arith)) y,
           )
 
-      pub raw-trips : TripsAt (rawIn m i d x) b (t ∷ ts)
+      pub raw-trips : StatusesAt (rawIn m i d x) b (t ∷ ts)
       unfolding rawIn
       raw-trips =
           record {
-            s = pushed stackSuccessFrom (λ (z : Trip Affine). z .s) (omega arith) (λ k g o. omega arith)
-                (stands-as m6 b (saved-other m5 (stackRunningFrom + d) r (stackSuccessFrom + d) (λ z. omega arith) ∙ saved-other m4 (stackFailureFrom + d) f (stackSuccessFrom + d) (λ z. omega arith) ∙ saved-own m3 (stackSuccessFrom + d) s w3 (omega arith)) (h .s))
-                (a .s);
-            f = pushed stackFailureFrom (λ (z : Trip Affine). z .f) (omega arith) (λ k g o. omega arith)
-                (stands-as m6 b (saved-other m5 (stackRunningFrom + d) r (stackFailureFrom + d) (λ z. omega arith) ∙ saved-own m4 (stackFailureFrom + d) f w4 (omega arith)) (h .f)) (a .f);
-            r = pushed stackRunningFrom (λ (z : Trip Affine). z .r) (omega arith) (λ k g o. omega arith) (stands-as m6 b (saved-own m5 (stackRunningFrom + d) r w5 (omega arith)) (h .r)) (a .r);
+            success = pushed stackSuccessFrom (λ (z : Bits Affine). z .success) (omega arith) (λ k g o. omega arith)
+                (stands-as m6 b (saved-other m5 (stackRunningFrom + d) r (stackSuccessFrom + d) (λ z. omega arith) ∙ saved-other m4 (stackFailureFrom + d) f (stackSuccessFrom + d) (λ z. omega arith) ∙ saved-own m3 (stackSuccessFrom + d) s w3 (omega arith)) (h .success))
+                (a .success);
+            failure = pushed stackFailureFrom (λ (z : Bits Affine). z .failure) (omega arith) (λ k g o. omega arith)
+                (stands-as m6 b (saved-other m5 (stackRunningFrom + d) r (stackFailureFrom + d) (λ z. omega arith) ∙ saved-own m4 (stackFailureFrom + d) f w4 (omega arith)) (h .failure)) (a .failure);
+            running = pushed stackRunningFrom (λ (z : Bits Affine). z .running) (omega arith) (λ k g o. omega arith) (stands-as m6 b (saved-own m5 (stackRunningFrom + d) r w5 (omega arith)) (h .running)) (a .running);
           }

@@ -1,4 +1,4 @@
--- What the building phase's code leaves, as a chain of what its callees leave; and the rows that arbitrate gives. Assumes nothing.
+-- What the building phase's code leaves, as a chain of what its callees leave; and the rows that arbitrate gives.
 use Prim.Native.Nat.{ℕ, zero, suc, _+_, _*_, _≤_}
 use native.Mathlib.Omega.{arith}
 use mathlib.Core.Path.{_≡_}

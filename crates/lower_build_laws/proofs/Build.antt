@@ -1,18 +1,18 @@
--- For the nodes of accepted bytes the building phase has room, and leaves the constructed circuit. Assumes nothing.
-use Prim.Native.Nat.{ℕ, _+_, _*_, _≤_, _<_}
+-- For the nodes of accepted bytes the building phase has room, and leaves the constructed circuit.
+use Prim.Native.Nat.{ℕ, _≤_}
 use native.Mathlib.Omega.{arith}
-use mathlib.Core.Path.{_≡_, refl, sym, ap, subst, _∙_}
-use mathlib.Core.List.{List, reverse}
+use mathlib.Core.Path.{sym, ap, _∙_}
+use mathlib.Core.List.{List}
 use lib.ListN.{length, length-reverse}
 use Rattle.tree.specs.Tree.{padded}
 use Rattle.plan.specs.Plan.{leavesOf, cursorsOf}
 use Rattle.wire.specs.Storage.{termSlots}
 use Rattle.construct_floats.specs.Floats.{floats}
-use Rattle.construct.specs.Circuit.{flats, build, construct, opCount, inputs}
-use Rattle.builder_table.specs.Work.{Mem, Whole, Stood}
+use Rattle.construct.specs.Circuit.{flats, build}
+use Rattle.builder_table.specs.Work.{Mem, Whole}
 use Rattle.lower_passes.specs.Build.{buildIn}
-use Rattle.lower_build_laws.specs.Accepted.{Accepted}
-use Rattle.lower_build_laws.specs.Built.{Built}
+use Rattle.lower_build_laws.proofs.Accepted.{Accepted}
+use Rattle.lower_build_laws.proofs.Built.{Built}
 use Rattle.lower_build_laws.proofs.Nodes.{Passed, nodes-built}
 
 pub build-law : (m : Mem) (ks cs : List ℕ) (kn cn : ℕ) → Accepted ks cs → Whole (m .nums) (m .biases) → 262144 ≤ termSlots (length (m .wires)) (length (m .coefs))

@@ -1,7 +1,7 @@
--- Whatever bytes are accepted, with the work room lent, building gives their circuit: what compile goes by. Assumes nothing.
-use Prim.Native.Nat.{ℕ, _≤_, _<_, _-_}
+-- Whatever bytes are accepted, with the work room lent, building gives their circuit: what compile goes by.
+use Prim.Native.Nat.{ℕ, _≤_, _-_}
 use native.Mathlib.Omega.{arith}
-use mathlib.Core.Path.{_≡_, refl, sym, ap, subst, _∙_}
+use mathlib.Core.Path.{_≡_, ap, subst, _∙_}
 use mathlib.Core.List.{List, _++_, append-nil}
 use lib.ListN.{length, replicate, length-reverse}
 use Rattle.tree.specs.Bytes.{Bytes}
@@ -13,8 +13,8 @@ use Rattle.construct.specs.Circuit.{flats, build}
 use Rattle.builder_table.specs.Work.{Mem, Whole}
 use Rattle.lower_passes.specs.Build.{buildIn}
 use Rattle.lower_build_laws.proofs.Facts.{accepted-tree-facts}
-use Rattle.lower_emit_laws.specs.Built.{Builds, Buildable}
-use Rattle.lower_build_laws.specs.Built.{Built}
+use Rattle.lower_emit_laws.specs.Built.{Buildable}
+use Rattle.lower_build_laws.proofs.Built.{Built}
 use Rattle.lower_build_laws.proofs.Build.{build-law}
 
 -- no slots past the last

@@ -1,10 +1,10 @@
--- Accepted bytes give the nodes of a tree within the limits, in slots that are enough for all that follows. Assumes nothing.
+-- Accepted bytes give the nodes of a tree within the limits, in slots that are enough for all that follows.
 use Prim.Native.Nat.{ℕ, _+_, _≤_}
 use native.Mathlib.Omega.{arith}
 use mathlib.Core.List.{List}
 use mathlib.Core.Path.{_≡_, _∙_, ap, refl, sym}
 use lib.ListN.{length, take}
-use Rattle.lower_build_laws.specs.Accepted.{Accepted}
+use Rattle.lower_build_laws.proofs.Accepted.{Accepted}
 use Rattle.lower_build_laws.proofs.Places.{nodes-at, padded-back, same-cursors, same-leaves}
 use Rattle.lower_build_laws.proofs.Shape.{cells-below, count-most, roots-are, rows-few, sound}
 use Rattle.lower_room.proofs.Slots.{ops-room}

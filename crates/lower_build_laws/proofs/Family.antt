@@ -1,4 +1,4 @@
--- A node that document 01 accepts takes all its children, as the passes ask for it. Assumes nothing.
+-- A node that document 01 accepts takes all its children, as the passes ask for it.
 use Prim.Native.Nat.{ℕ, _≤_}
 use native.Mathlib.Omega.{arith}
 use mathlib.Core.Path.{_≡_, refl, subst, sym}
@@ -12,7 +12,7 @@ use Rattle.tree_kinds.proofs.Table.{Every, at}
 use Rattle.tree.specs.Bytes.{Children}
 use Rattle.walk.specs.Kind.{bit, hasCursor, kindOf}
 use Rattle.construct.specs.Lower.{flatOf}
-use Rattle.lower_ordered_laws.specs.Passes.{Childed, takes}
+use Rattle.lower_ordered_laws.proofs.Passes.{Childed, takes}
 
 -- what is used of a node of kind k with n children
 pub record Fits (k n : ℕ) : Type 0 where

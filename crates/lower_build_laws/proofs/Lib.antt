@@ -1,5 +1,7 @@
+pub mod Accepted
 pub mod Build
 pub mod Buildable
+pub mod Built
 pub mod Facts
 pub mod Family
 pub mod Nodes

@@ -1,4 +1,4 @@
--- The three passes over nodes that find their children, one after the other. Assumes nothing.
+-- The three passes over nodes that find their children, one after the other.
 use Prim.Native.Nat.{ℕ, suc, _+_, _*_, _≤_, _<_}
 use native.Mathlib.Nat.{add-suc}
 use native.Mathlib.Omega.{arith}
@@ -10,36 +10,36 @@ use Rattle.wire.specs.Terms.{Affine}
 use Rattle.wire.specs.Storage.{termSlots}
 use Rattle.construct_floats.specs.Floats.{floats}
 use Rattle.construct.specs.Builder.{Op}
-use Rattle.construct.specs.Lower.{Flat, Info, NOut, Many, flags}
+use Rattle.construct.specs.Lower.{Flat, Arbitration, NodeReach, Many, flags}
 use Rattle.construct.specs.Lower as L
-use Rattle.construct.specs.Circuit.{slotEnd, cellEnd, inputs, cellsN, cellsNC, root, Output, outputsOf, build, construct}
+use Rattle.construct.specs.Circuit.{slotEnd, cellEnd, inputs, cellsNC, root, outputsOf, build, construct}
 use Rattle.builder_table.specs.declared.Builder.{Builder}
 use Rattle.builder_table.specs.Work.{Mem, Whole, Stood}
-use Rattle.builder_laws.specs.Table.{Ops, Stands, Lasts}
+use Rattle.builder_laws.specs.Table.{Ops, Lasts}
 use Rattle.builder_laws.proofs.Table.{lasts-on}
-use Rattle.lower_room.specs.Uses.{upUse, upMore, downUse, downMore, flagsUse, arenaUse, opsUse}
-use Rattle.builder_laws.specs.Runs.{Runs, Rows}
-use Rattle.builder_laws.proofs.Runs.{keeps-less, keeps-then, whole-kept, rows-kept}
+use Rattle.lower_room.proofs.Uses.{upUse, upMore, downUse, downMore, flagsUse, arenaUse, opsUse}
+use Rattle.builder_laws.proofs.Running.{Rows}
+use Rattle.builder_laws.proofs.Runs.{whole-kept, rows-kept}
 use Rattle.lower_passes.specs.Arbitrate.{Raised, up, arbitrateIn}
-use Rattle.builder_table.specs.Slots.{nextCursorFrom, nextRunningFrom, opsFrom}
+use Rattle.builder_table.specs.Slots.{nextCursorFrom, nextRunningFrom}
 use Rattle.lower_passes.specs.Reach.{Lowered, down, rootIn, reachIn, flagsIn}
-use Rattle.lower_ordered_laws.specs.Passes.{NodesAt, Sound, roots, rowsIn, InfosAt, OutAt, OutsAt}
+use Rattle.lower_ordered_laws.proofs.Passes.{NodesAt, Sound, roots, rowsIn, ArbitrationsAt, OutsAt}
 use Rattle.lower_ordered_laws.proofs.Kept.{outs-kept}
-use Rattle.lower_arbitrate_laws.specs.Upward.{Arbitrated, None}
+use Rattle.lower_arbitrate_laws.proofs.Upward.{Arbitrated}
 use Rattle.lower_arbitrate_laws.proofs.Arbitrate.{arbitrate-law}
-use Rattle.lower_reach_laws.specs.Downward.{ReachRuns, FlagsRuns, Flagless}
+use Rattle.lower_reach_laws.proofs.Downward.{ReachRuns, FlagsRuns}
 use Rattle.lower_reach_laws.proofs.Flags.{flags-law}
 use Rattle.lower_reach_laws.proofs.Reach.{reach-law, reach-outs, reach-curs}
-use Rattle.lower_emit_laws.specs.Emitted.{SlotIs, OutputAt, OutputsAt, CursorsAt, CircuitAt}
+use Rattle.lower_emit_laws.specs.Emitted.{OutputsAt, CursorsAt, CircuitAt}
 use Rattle.lower_passes.specs.Build.{fresh, buildIn}
 
 -- the flags are as many as the nodes' outs
-flags-count : (n0 nN : ℕ) (xs : List (NOut Affine)) (os : List (Op Affine)) → length (flags floats n0 nN xs os .items) ≡ length xs
+flags-count : (opsAt cursorsAt : ℕ) (xs : List (NodeReach Affine)) (os : List (Op Affine)) → length (flags floats opsAt cursorsAt xs os .items) ≡ length xs
 unfolding flags
-flags-count n0 nN [] os = refl
-flags-count n0 nN (x ∷ xs) os = ap suc (flags-count n0 nN xs _)
+flags-count opsAt cursorsAt [] os = refl
+flags-count opsAt cursorsAt (x ∷ xs) os = ap suc (flags-count opsAt cursorsAt xs _)
 
-outputs-count : (xs : List (NOut Affine)) (fs : List Affine) → length fs ≡ length xs → length (outputsOf xs fs) ≡ length xs
+outputs-count : (xs : List (NodeReach Affine)) (fs : List Affine) → length fs ≡ length xs → length (outputsOf xs fs) ≡ length xs
 outputs-count [] fs e = refl
 outputs-count (x ∷ xs) [] e = omega (arith, e)
 outputs-count (x ∷ xs) (f ∷ fs) e = ap suc (outputs-count xs fs (omega (arith, e)))
@@ -47,18 +47,18 @@ outputs-count (x ∷ xs) (f ∷ fs) e = ap suc (outputs-count xs fs (omega (arit
 -- ---- where all had room, what stands is
 
 module _ (m : Mem) (b : Builder) (ok : b .room .ok ≡ true) where
-  outputs-at : (i : ℕ) (xs : List (NOut Affine)) (fs : List Affine) → OutsAt m b i xs → Rows m b (nextRunningFrom + i) fs → OutputsAt m (b .room .used) i (outputsOf xs fs)
+  outputs-at : (i : ℕ) (xs : List (NodeReach Affine)) (fs : List Affine) → OutsAt m b i xs → Rows m b (nextRunningFrom + i) fs → OutputsAt m (b .room .used) i (outputsOf xs fs)
   outputs-at i [] fs h r = tt
   outputs-at i (x ∷ xs) [] h r = tt
   outputs-at i (x ∷ xs) (f ∷ fs) h r =
       let o = h .0 in (
         record {
-          s = o .raw .s .holds ok;
-          f = o .raw .f .holds ok;
-          r = o .raw .r .holds ok;
+          success = o .raw .success .holds ok;
+          failure = o .raw .failure .holds ok;
+          running = o .raw .running .holds ok;
           reached = o .reached .holds ok;
           halted = o .halted .holds ok;
-          running = r .0 .holds ok;
+          next-running = r .0 .holds ok;
         },
         outputs-at (suc i) xs fs (h .1) (subst (λ (k : ℕ). Rows m b k fs) (sym (add-suc nextRunningFrom i)) (r .1)),
       )
@@ -83,12 +83,12 @@ pub record Passed (m : Mem) (s : Stood) (ns : List Flat) : Type 0 where
   pub biases : length (s .mem .biases) ≡ length (m .biases)
 
 -- reach's law from where arbitrating left off
-reach-from : (m : Mem) (b : Builder) (kinds counts : List ℕ) (ns : List Flat) (infos : List (Info Affine)) (os : List (Op Affine)) (n0 row : ℕ) → b .cells ≡ n0 → row ≡ rowsIn ns
-    → Whole (m .nums) (m .biases) → Ops m b os → InfosAt m b 0 ns infos → NodesAt kinds counts 0 ns → Sound ns → roots ns ≡ 1 → length ns ≤ 128 → cellEnd 0 ns ≤ 128
-    → ReachRuns 0 0 (downUse floats n0 (length ns) 0 0 infos (root floats ∷ []) os) (downMore ns) m b
+reach-from : (m : Mem) (b : Builder) (kinds counts : List ℕ) (ns : List Flat) (infos : List (Arbitration Affine)) (os : List (Op Affine)) (opsAt row : ℕ) → b .cells ≡ opsAt → row ≡ rowsIn ns
+    → Whole (m .nums) (m .biases) → Ops m b os → ArbitrationsAt m b 0 ns infos → NodesAt kinds counts 0 ns → Sound ns → roots ns ≡ 1 → length ns ≤ 128 → cellEnd 0 ns ≤ 128
+    → ReachRuns 0 0 (downUse floats opsAt (length ns) 0 0 infos (root floats ∷ []) os) (downMore ns) m b
     (reachIn (rootIn m) (down b 1 row 0) kinds counts (length ns) 0 (length ns))
-    (L.down floats n0 (length ns) 0 0 infos (root floats ∷ []) os)
-reach-from m b kinds counts ns infos os n0 row c e w o h at so one few cells =
+    (L.down floats opsAt (length ns) 0 0 infos (root floats ∷ []) os)
+reach-from m b kinds counts ns infos os opsAt row c e w o h at so one few cells =
     subst (λ (n : ℕ).
     ReachRuns 0 0 (downUse floats n (length ns) 0 0 infos (root floats ∷ []) os) (downMore ns) m b
     (reachIn (rootIn m) (down b 1 row 0) kinds counts (length ns) 0 (length ns))
@@ -100,13 +100,13 @@ reach-from m b kinds counts ns infos os n0 row c e w o h at so one few cells =
     (reach-law m b kinds counts ns infos os w o h at so one few cells))
 
 -- and the flags' from where reaching did
-flags-after : (m : Mem) (b : Builder) (outs : List (NOut Affine)) (os : List (Op Affine)) (n0 nN n : ℕ) → b .cells ≡ n0 → length outs ≡ n → n ≤ 128
+flags-after : (m : Mem) (b : Builder) (outs : List (NodeReach Affine)) (os : List (Op Affine)) (opsAt cursorsAt n : ℕ) → b .cells ≡ opsAt → length outs ≡ n → n ≤ 128
     → Whole (m .nums) (m .biases) → Ops m b os → OutsAt m b 0 outs
-    → FlagsRuns 0 n (flagsUse floats n0 outs os) m b (flagsIn m b 0 n) (flags floats n0 nN outs os)
-flags-after m b outs os n0 nN n c e few w o h =
-    subst (λ (k : ℕ). FlagsRuns 0 n (flagsUse floats k outs os) m b (flagsIn m b 0 n) (flags floats k nN outs os)) c
-    (subst (λ (k : ℕ). FlagsRuns 0 k (flagsUse floats (b .cells) outs os) m b (flagsIn m b 0 k) (flags floats (b .cells) nN outs os)) e
-    (flags-law m b 0 nN outs os w o h (omega (arith, e))))
+    → FlagsRuns 0 n (flagsUse floats opsAt outs os) m b (flagsIn m b 0 n) (flags floats opsAt cursorsAt outs os)
+flags-after m b outs os opsAt cursorsAt n c e few w o h =
+    subst (λ (k : ℕ). FlagsRuns 0 n (flagsUse floats k outs os) m b (flagsIn m b 0 n) (flags floats k cursorsAt outs os)) c
+    (subst (λ (k : ℕ). FlagsRuns 0 k (flagsUse floats (b .cells) outs os) m b (flagsIn m b 0 k) (flags floats (b .cells) cursorsAt outs os)) e
+    (flags-law m b 0 cursorsAt outs os w o h (omega (arith, e))))
 
 module _ (m : Mem) (kinds counts : List ℕ) (ns : List Flat) (at : NodesAt kinds counts 0 ns) (sound : Sound ns) (one : roots ns ≡ 1) (few : length ns ≤ 128) (cells : cellEnd 0 ns ≤ 128)
     (w : Whole (m .nums) (m .biases)) where
@@ -129,25 +129,25 @@ module _ (m : Mem) (kinds counts : List ℕ) (ns : List Flat) (at : NodesAt kind
   e2 = reachIn (rootIn (e1 .mem)) (down (e1 .up .builder) 1 (e1 .up .row) 0) kinds counts (length ns) 0 (length ns)
 
   abbrev d : L.Down Affine
-  d = L.down floats (inputs ns) (length ns) 0 0 (u .infos) (root floats ∷ []) (u .ops)
+  d = L.down floats (inputs ns) (length ns) 0 0 (u .arbitrations) (root floats ∷ []) (u .ops)
 
   abbrev downNeed : ℕ
-  downNeed = downUse floats (inputs ns) (length ns) 0 0 (u .infos) (root floats ∷ []) (u .ops)
+  downNeed = downUse floats (inputs ns) (length ns) 0 0 (u .arbitrations) (root floats ∷ []) (u .ops)
 
   second : ReachRuns 0 0 downNeed (downMore ns) (e1 .mem) (e1 .up .builder) e2 d
   second =
-      reach-from (e1 .mem) (e1 .up .builder) kinds counts ns (u .infos) (u .ops) (inputs ns) (e1 .up .row) (first .runs .keeps .cells) (first .stands .row)
-      (whole-kept (first .runs .keeps) w) (first .stands .ops) (first .stands .infos) at sound one few cells
+      reach-from (e1 .mem) (e1 .up .builder) kinds counts ns (u .arbitrations) (u .ops) (inputs ns) (e1 .up .row) (first .runs .keeps .cells) (first .stands .row)
+      (whole-kept (first .runs .keeps) w) (first .stands .ops) (first .stands .arbitrations) at sound one few cells
 
   outs-many : length (d .outs) ≡ length ns
   outs-many =
-      subst (λ (n : ℕ). length (L.down floats n (length ns) 0 0 (u .infos) (root floats ∷ []) (u .ops) .outs) ≡ length ns) (first .runs .keeps .cells)
-      (reach-outs (e1 .mem) (e1 .up .builder) ns (u .infos) (root floats ∷ []) (u .ops) (first .stands .infos))
+      subst (λ (n : ℕ). length (L.down floats n (length ns) 0 0 (u .arbitrations) (root floats ∷ []) (u .ops) .outs) ≡ length ns) (first .runs .keeps .cells)
+      (reach-outs (e1 .mem) (e1 .up .builder) ns (u .arbitrations) (root floats ∷ []) (u .ops) (first .stands .arbitrations))
 
-  curs-many : length (d .curs) ≡ cellEnd 0 ns
+  curs-many : length (d .cursors) ≡ cellEnd 0 ns
   curs-many =
-      subst (λ (n : ℕ). length (L.down floats n (length ns) 0 0 (u .infos) (root floats ∷ []) (u .ops) .curs) ≡ cellEnd 0 ns) (first .runs .keeps .cells)
-      (reach-curs (e1 .mem) (e1 .up .builder) ns (u .infos) (root floats ∷ []) (u .ops) (first .stands .infos))
+      subst (λ (n : ℕ). length (L.down floats n (length ns) 0 0 (u .arbitrations) (root floats ∷ []) (u .ops) .cursors) ≡ cellEnd 0 ns) (first .runs .keeps .cells)
+      (reach-curs (e1 .mem) (e1 .up .builder) ns (u .arbitrations) (root floats ∷ []) (u .ops) (first .stands .arbitrations))
 
   abbrev e3 : Stood
   e3 = flagsIn (e2 .mem) (e2 .down .builder) 0 (length ns)
@@ -184,8 +184,8 @@ module _ (m : Mem) (kinds counts : List ℕ) (ns : List Flat) (at : NodesAt kind
       (λ j l h. ((λ p q. omega (arith, outs-many, few)), (λ p q. omega (arith, outs-many, few)), (λ p q. omega (arith, outs-many, few)), (λ p q. omega (arith, outs-many, few)), (λ p q. omega (arith, outs-many, few)), (λ p q. omega (arith, outs-many, few))))
       (second .outs)
 
-  curs-last : Rows (e3 .mem) (e3 .builder) (nextCursorFrom + 0) (d .curs)
-  curs-last = rows-kept (third .runs .keeps) (nextCursorFrom + 0) (d .curs) (omega (arith, curs-many)) (λ k a c p q. omega (arith, curs-many)) (second .curs)
+  curs-last : Rows (e3 .mem) (e3 .builder) (nextCursorFrom + 0) (d .cursors)
+  curs-last = rows-kept (third .runs .keeps) (nextCursorFrom + 0) (d .cursors) (omega (arith, curs-many)) (λ k a c p q. omega (arith, curs-many)) (second .cursors)
 
   module _ (inputs-few : inputs ns < 65536) (ops-few : opsUse ns ≤ 2200) (room : arenaUse floats ns ≤ termSlots (length (m .wires)) (length (m .coefs))) where
     went : (e3 .builder .room .ok ≡ true) × (e3 .builder .room .used ≤ 0 + (upNeed + (downNeed + flagNeed))) × (e3 .builder .ops ≤ 0 + (upMore ns + (downMore ns + 2 * length ns)))
@@ -201,7 +201,7 @@ module _ (m : Mem) (kinds counts : List ℕ) (ns : List Flat) (at : NodesAt kind
             order = refl;
             ops = o .all;
             outputs = outputs-at (e3 .mem) (e3 .builder) ok 0 (d .outs) (g .items) outs-last (third .rows);
-            cursors = cursors-at (e3 .mem) (e3 .builder) ok 0 (d .curs) curs-last;
+            cursors = cursors-at (e3 .mem) (e3 .builder) ok 0 (d .cursors) curs-last;
           };
           ops = o .count;
           outputs = outputs-count (d .outs) (g .items) (flags-count (inputs ns) (length ns) (d .outs) (d .ops)) ∙ outs-many;

@@ -1,8 +1,8 @@
 -- What the slots that flattening leaves, zeros after the nodes, hold: the plan's lists are the nodes' own, and so are the nodes read from
--- them. Assumes nothing.
+-- them.
 use Prim.Native.Nat.{ℕ, zero, suc, _+_, _-_, _≤_, _<_}
 use native.Mathlib.Omega.{arith}
-use mathlib.Core.Bool.{Bool, true, false}
+use mathlib.Core.Bool.{Bool, false}
 use mathlib.Core.List.{List, [], _∷_, _++_}
 use mathlib.Core.Path.{_≡_, _∙_, ap, refl, sym}
 use lib.Dec.{eqb}
@@ -10,7 +10,7 @@ use lib.ListN.{List·getD-append, getD, length, replicate, take}
 use lib.Seq.{take-all, take-append-seam}
 use Rattle.construct.specs.Circuit.{flats}
 use Rattle.construct.specs.Lower.{flatOf}
-use Rattle.lower_ordered_laws.specs.Passes.{NodesAt}
+use Rattle.lower_ordered_laws.proofs.Passes.{NodesAt}
 use Rattle.plan.specs.Plan.{cursorsOf, eitherKind, leavesOf, listed, placesFrom}
 use Rattle.tree.specs.Tree.{padded}
 use Rattle.walk.specs.Kind.{kindOf}

@@ -1,4 +1,4 @@
--- A forest whose nodes document 01 accepts, as the construction and the passes ask for it. Assumes nothing.
+-- A forest whose nodes document 01 accepts, as the construction and the passes ask for it.
 use Prim.Native.Nat.{ℕ, _+_, _*_, _≤_}
 use native.Mathlib.Omega.{arith}
 use mathlib.Core.Bool.{Bool, true, false}
@@ -9,10 +9,10 @@ use Rattle.construct.specs.Circuit.{flats}
 use Rattle.construct.specs.Lower.{Flat}
 use Rattle.lower_room.proofs.Slots.{kids-room}
 use Rattle.construct_means.proofs.Same.{flats-are, nodesOf}
-use Rattle.lower_ordered_laws.specs.Passes.{Sound, roots, rowsIn}
+use Rattle.lower_ordered_laws.proofs.Passes.{Sound, roots, rowsIn}
 use Rattle.tree.specs.Bytes.{Lowered}
 use Rattle.tree.specs.Forest.{Forest, counts, node, none, preorder, size, width}
-use Rattle.lower_room.specs.Uses.{upMore}
+use Rattle.lower_room.proofs.Uses.{upMore}
 use Rattle.walk.specs.Kind.{Kind, bit, kindOf}
 use Rattle.walk.specs.Walk.{cellsIn, countIn}
 

@@ -1,1 +1,1 @@
-// What holds of the kinds and child counts of accepted bytes, as laws only: see specs/ and proofs/.
+// Definitions and laws alone: accepted bytes are nodes that find their children, and building leaves their circuit.

@@ -1,4 +1,4 @@
--- The plan's lists are written into parts of one slice. Assumes nothing.
+-- The plan's lists are written into parts of one slice.
 use Prim.Native.Nat.{ℕ, suc, _+_, _≤_}
 use native.Mathlib.Omega.{arith}
 use mathlib.Core.Path.{_≡_, sym, ap, _∙_}

@@ -1,4 +1,4 @@
--- What the writing code leaves, as chains of what its callees leave; and its turns. Assumes nothing.
+-- What the writing code leaves, as chains of what its callees leave; and its turns.
 use Prim.Native.Nat.{ℕ, suc, _+_, _-_, _*_, _≤_, _<_}
 use native.Mathlib.Omega.{arith}
 use mathlib.Core.Path.{_≡_, refl, ap, _∙_}

@@ -1,4 +1,4 @@
--- The three ends of compile: no slots for the ops, none for the terms, and the circuit written. Assumes nothing.
+-- The three ends of compile: no slots for the ops, none for the terms, and the circuit written.
 use Prim.Native.Nat.{ℕ, _+_, _*_, _≤_, _<_}
 use native.Mathlib.Omega.{arith}
 use mathlib.Core.Path.{_≡_}

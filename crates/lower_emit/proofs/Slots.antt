@@ -1,4 +1,4 @@
--- Where the output forms' slots lie, and the turns of counting. Assumes nothing.
+-- Where the output forms' slots lie, and the turns of counting.
 use Prim.Native.Nat.{ℕ, suc, _+_, _-_, _*_, _/_, _%_, _≤_, _<_}
 use native.Mathlib.Omega.{arith}
 use mathlib.Core.Path.{_≡_}

@@ -1,5 +1,5 @@
 -- The second phase of compile on all that is lent: how many terms the forms that were built have, and what writing them leaves in the four slices of a
--- circuit. The work room is read only. Definitions only.
+-- circuit. The work room is read only. Inner: the shape of the code; nobody need believe it.
 use Prim.Native.Nat.{ℕ, zero, suc, _+_, _-_, _*_, _/_, _%_, _≤_, _<_}
 use mathlib.Core.List.{List}
 use mathlib.Core.Bool.{cond}

@@ -1,5 +1,5 @@
 -- What stands around building in compile: the plan's lists are written, and when all is built the circuit is refused for want of slots or written.
--- Definitions only.
+-- Inner: the shape of the code; nobody need believe it.
 use Prim.Native.Nat.{ℕ, _+_, _*_}
 use mathlib.Core.Bool.{cond}
 use mathlib.Core.List.{List}

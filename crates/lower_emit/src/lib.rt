@@ -9,7 +9,7 @@ use wire::Biases;
 use wire::Counts;
 use wire::Nums;
 ghost use mathlib.Core.Path.{_≡_};
-ghost use Prim.Native.Nat.{_+_, _*_, _≤_, _<_};
+ghost use Prim.Native.Nat.{_≤_, _<_};
 ghost use lib.ListN.{length};
 ghost use Rattle.plan.specs.Plan.{leavesOf, cursorsOf};
 ghost use Rattle.compile.specs.Compile.{lent};

@@ -1,4 +1,4 @@
--- What is counted is the circuit's terms; and its forms lie in the pools. Assumes nothing.
+-- What is counted is the circuit's terms; and its forms lie in the pools.
 use Prim.Native.Nat.{ℕ, zero, suc, _+_, _*_, _≤_, _<_}
 use native.Mathlib.Omega.{arith}
 use mathlib.Core.Path.{_≡_, refl, subst}

@@ -1,5 +1,5 @@
--- Of a table that stands for a circuit: the count is the circuit's, and what is emitted on slices that hold the plan's lists is its encoding. Assumes nothing.
-use Prim.Native.Nat.{ℕ, _+_, _*_, _≤_}
+-- Of a table that stands for a circuit: the count is the circuit's, and what is emitted on slices that hold the plan's lists is its encoding.
+use Prim.Native.Nat.{ℕ, _*_, _≤_}
 use native.Mathlib.Nat.{zero-add}
 use native.Mathlib.Omega.{arith}
 use mathlib.Core.Path.{_≡_, refl, sym, ap, _∙_, subst}

@@ -1,4 +1,4 @@
--- The forms of a circuit that the table stands for, in the order in which they are counted and written. Assumes nothing.
+-- The forms of a circuit that the table stands for, in the order in which they are counted and written.
 use Prim.Native.Nat.{ℕ, suc, _+_, _-_, _*_, _/_, _%_, _<_}
 use native.Mathlib.Numerals.{add-one}
 use native.Mathlib.Omega.{arith}
@@ -60,17 +60,17 @@ module _ (m : Mem) (used : ℕ) where
     outputs-from (x ∷ outs) curs i k l e h r =
         let o = h .0 in
         let b : i < nodes = omega arith in (
-          at-slot _ (nodal k i 0 b (omega arith) (omega arith)) (o .s),
+          at-slot _ (nodal k i 0 b (omega arith) (omega arith)) (o .success),
           (
-            at-slot _ (nodal (k + 1) i 1 b (omega arith) (omega arith)) (o .f),
+            at-slot _ (nodal (k + 1) i 1 b (omega arith) (omega arith)) (o .failure),
             (
-              at-slot _ (nodal (k + 1 + 1) i 2 b (omega arith) (omega arith)) (o .r),
+              at-slot _ (nodal (k + 1 + 1) i 2 b (omega arith) (omega arith)) (o .running),
               (
                 at-slot _ (nodal (k + 1 + 1 + 1) i 3 b (omega arith) (omega arith)) (o .reached),
                 (
                   at-slot _ (nodal (k + 1 + 1 + 1 + 1) i 4 b (omega arith) (omega arith)) (o .halted),
                   (
-                    at-slot _ (nodal (k + 1 + 1 + 1 + 1 + 1) i 5 b (omega arith) (omega arith)) (o .running),
+                    at-slot _ (nodal (k + 1 + 1 + 1 + 1 + 1) i 5 b (omega arith) (omega arith)) (o .next-running),
                     outputs-from outs curs (suc i) (k + 1 + 1 + 1 + 1 + 1 + 1) (omega arith) (omega arith) (h .1) r,
                   ),
                 ),

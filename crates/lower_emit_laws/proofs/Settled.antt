@@ -1,4 +1,4 @@
--- Where the table stands for the construction's circuit, what settling answers and leaves is what compile's definition says. Assumes nothing.
+-- Where the table stands for the construction's circuit, what settling answers and leaves is what compile's definition says.
 use Prim.Native.Nat.{ℕ, _+_, _*_}
 use mathlib.Core.Path.{_≡_, sym, ap, _∙_}
 use mathlib.Core.Bool.{cond}

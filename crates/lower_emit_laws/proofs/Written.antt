@@ -1,4 +1,4 @@
--- What is written of forms that the table stands for: their ranges, biases and terms, each right past the one before. Assumes nothing.
+-- What is written of forms that the table stands for: their ranges, biases and terms, each right past the one before.
 use Prim.Native.Nat.{ℕ, suc, _+_, _*_}
 use native.Mathlib.Numerals.{add-one}
 use native.Mathlib.Omega.{arith}

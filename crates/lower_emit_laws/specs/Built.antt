@@ -1,4 +1,4 @@
--- What compile goes by once all is built: the table stands for the circuit, and all of it fits. Definitions only.
+-- What compile goes by once all is built: the table stands for the circuit, and all of it fits. Inner: the shape of the code; nobody need believe it.
 use Prim.Native.Nat.{ℕ, _≤_, _<_}
 use mathlib.Core.Path.{_≡_}
 use mathlib.Core.List.{List}

@@ -1,4 +1,5 @@
--- The table stands for a circuit: the ops' slots for its ops, and each output's slot for its form. Definitions only.
+-- The table stands for a circuit: the ops' slots for its ops, and each output's slot for its form.
+-- Inner: the shape of the code; nobody need believe it.
 use Prim.Native.Nat.{ℕ, suc, _+_}
 use mathlib.Core.Path.{_≡_}
 use mathlib.Core.List.{List, [], _∷_, reverse}
@@ -17,12 +18,12 @@ module _ (m : Mem) (used : ℕ) where
 
   -- what node i puts out
   pub record OutputAt (i : ℕ) (x : Output Affine) : Type 0 where
-    pub s : SlotIs (rawSuccessFrom + i) (x .status .s)
-    pub f : SlotIs (rawFailureFrom + i) (x .status .f)
-    pub r : SlotIs (rawRunningFrom + i) (x .status .r)
+    pub success : SlotIs (rawSuccessFrom + i) (x .status .success)
+    pub failure : SlotIs (rawFailureFrom + i) (x .status .failure)
+    pub running : SlotIs (rawRunningFrom + i) (x .status .running)
     pub reached : SlotIs (reachedFrom + i) (x .reached)
     pub halted : SlotIs (haltedFrom + i) (x .halted)
-    pub running : SlotIs (nextRunningFrom + i) (x .running)
+    pub next-running : SlotIs (nextRunningFrom + i) (x .running)
 
   -- the nodes from the i-th on
   abbrev pub OutputsAt : ℕ → List (Output Affine) → Type 0

@@ -1,13 +1,13 @@
--- What the two loops' code leaves, as chains of what its callees leave; and their turns. Assumes nothing.
+-- What the two loops' code leaves, as chains of what its callees leave; and their turns.
 use Prim.Native.Nat.{ℕ, suc, _+_, _-_, _≤_, _<_}
 use native.Mathlib.Omega.{arith}
-use mathlib.Core.Path.{_≡_, refl, ap, sym, _∙_}
+use mathlib.Core.Path.{_≡_, ap}
 use mathlib.Core.List.{List}
 use lib.Ieee.{Float}
 use Rattle.wire.specs.declared.Form.{Form}
 use Rattle.construct_floats.specs.Floats.{number}
 use Rattle.builder_table.specs.declared.Builder.{Builder}
-use Rattle.builder_table.specs.Work.{Mem, mem, Ended, slot, loaded, savedNums, savedBiases, Stood, stood}
+use Rattle.builder_table.specs.Work.{Mem, mem, Ended, slot, loaded, Stood, stood}
 use Rattle.builder_table.proofs.Saved.{SavedForm}
 use Rattle.builder_table.specs.Steps.{plusIn, oneMinusIn}
 use Rattle.builder.specs.Bits.{isZeroIn, atLeastIn, orIn}

@@ -1,13 +1,13 @@
--- What the two loops' code leaves, as chains of what its callees leave; and their turns. Assumes nothing.
+-- What the two loops' code leaves, as chains of what its callees leave; and their turns.
 use Prim.Native.Nat.{ℕ, suc, _+_, _-_, _≤_, _<_}
 use native.Mathlib.Omega.{arith}
-use mathlib.Core.Path.{_≡_, refl, ap, sym, _∙_}
+use mathlib.Core.Path.{_≡_, ap}
 use mathlib.Core.List.{List}
 use lib.Ieee.{Float}
 use Rattle.wire.specs.declared.Form.{Form}
 use Rattle.construct_floats.specs.Floats.{number}
 use Rattle.builder_table.specs.declared.Builder.{Builder}
-use Rattle.builder_table.specs.Work.{Mem, mem, Ended, slot, loaded, saved, savedNums, savedBiases, Stood, stood}
+use Rattle.builder_table.specs.Work.{Mem, mem, Ended, loaded, savedNums, savedBiases, Stood, stood}
 use Rattle.builder_table.specs.Steps.{plusIn, scaledIn, oneMinusIn}
 use Rattle.builder.specs.Bits.{andIn}
 use Rattle.builder_table.proofs.Saved.{SavedForm}
@@ -29,13 +29,13 @@ module _ (m : Mem) (b : Builder) (k : ℕ) {nums : List ℕ} {biases : List Floa
 
 module _ (m : Mem) (b : Builder) (run cur bit : Form) (k : ℕ) (other : Form) where
   pub run-made : {o p q : Ended} {position : Float} → position ≡ number k → o ≡ plusIn m b run bit → p ≡ scaledIn (o .mem) (o .builder) bit position → q ≡ plusIn (p .mem) (p .builder) cur (p .form)
-      → _≡_ {A = Chosen} (record { mem = q .mem; picked = record { other = other; run = o .form; cur = q .form; builder = q .builder } }) (runIn m b run cur bit k other)
+      → _≡_ {A = Chosen} (record { mem = q .mem; picked = record { other = other; run = o .form; cursor = q .form; builder = q .builder } }) (runIn m b run cur bit k other)
   unfolding runIn
   run-made c d e f = rw (f, e, d, c)
 
 module _ (m : Mem) (p : Picked) (k : ℕ) (finished running : Form) where
   pub pick-made : {stop : Form} {o r s : Ended} {c : Chosen} → stop ≡ loaded m (stopsFrom + k) → o ≡ andIn m (p .builder) stop finished → r ≡ andIn (o .mem) (o .builder) stop running
-      → s ≡ plusIn (r .mem) (r .builder) (p .other) (o .form) → c ≡ runIn (s .mem) (s .builder) (p .run) (p .cur) (r .form) k (s .form) → c ≡ pickIn m p k finished running
+      → s ≡ plusIn (r .mem) (r .builder) (p .other) (o .form) → c ≡ runIn (s .mem) (s .builder) (p .run) (p .cursor) (r .form) k (s .form) → c ≡ pickIn m p k finished running
   unfolding pickIn
   pick-made a d e f g = rw (g, f, e, d, a)
 

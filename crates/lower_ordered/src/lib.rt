@@ -11,7 +11,7 @@ ghost use Prim.Native.Nat.{_+_, _≤_, _<_};
 ghost use Rattle.builder_table.specs.Work.{Whole, mem};
 ghost use Rattle.lower_passes.specs.Ordered.{ordains, orderedIn};
 
-// The children's bits stand in the slots up to adv, oth and run, the first child's on top; the children are given the rows from `row` on.
+// The children's bits stand in the slots up to advance, other and run, the first child's on top; the children are given the rows from `row` on.
 pub fn lower_ordered(
     wires: &mut [u32],
     coefs: &mut [f32],
@@ -19,17 +19,17 @@ pub fn lower_ordered(
     biases: &mut [f32],
     at: Builder,
     cursor: Form,
-    adv: usize,
-    oth: usize,
+    advance: usize,
+    other: usize,
     run: usize,
     row: usize,
     n: usize,
 ) -> Ordered
-    requires { ⌜ Whole (now nums) (now biases) × (n ≤ adv + 1) × (n ≤ oth + 1) × (n ≤ run + 1) × (adv < 768) × (oth < 768) × (run < 768) × (row + n ≤ 128) ⌝ }
+    requires { ⌜ Whole (now nums) (now biases) × (n ≤ advance + 1) × (n ≤ other + 1) × (n ≤ run + 1) × (advance < 768) × (other < 768) × (run < 768) × (row + n ≤ 128) ⌝ }
     ensures { λ r. ⌜ ordains (now (wires .exit)) (now (coefs .exit)) (now (nums .exit)) (now (biases .exit)) r
-        ≡ orderedIn (mem (now (wires .entry)) (now (coefs .entry)) (now (nums .entry)) (now (biases .entry))) at cursor adv oth run row n ⌝ }
+        ≡ orderedIn (mem (now (wires .entry)) (now (coefs .entry)) (now (nums .entry)) (now (biases .entry))) at cursor advance other run row n ⌝ }
 {
-    let a = crate::gates::gates(wires, coefs, nums, biases, at, cursor, adv, n);
+    let a = crate::gates::gates(wires, coefs, nums, biases, at, cursor, advance, n);
     let b = crate::gates::clears(wires, coefs, nums, biases, a, n);
     let d = crate::stops::stops(wires, coefs, nums, biases, b, row, n);
     let sum = d.form;
@@ -38,13 +38,13 @@ pub fn lower_ordered(
     let none = Picked {
         other: zero,
         run: zero,
-        cur: zero,
+        cursor: zero,
         builder: u,
     };
-    let p = crate::stops::picks(wires, coefs, nums, biases, none, oth, run, n);
+    let p = crate::stops::picks(wires, coefs, nums, biases, none, other, run, n);
     let other = p.other;
     let runs = p.run;
-    let cur = p.cur;
+    let cursor = p.cursor;
     let v = p.builder;
     let s = builder_table::one_minus(wires, coefs, v, sum);
     let advance = s.form;
@@ -53,7 +53,7 @@ pub fn lower_ordered(
         advance,
         other,
         run: runs,
-        cur,
+        cursor,
         builder: w,
     }
 }

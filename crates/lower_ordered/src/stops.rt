@@ -99,14 +99,14 @@ fn add_run(
     coefs: &mut [f32],
     at: Builder,
     run: Form,
-    cur: Form,
+    cursor: Form,
     bit: Form,
     k: usize,
     other: Form,
 ) -> Picked
     requires { ⌜ k < 128 ⌝ }
     ensures { λ r. ⌜ ((nums : List ℕ) (biases : List Float) → chosen (now (wires .exit)) (now (coefs .exit)) nums biases r
-        ≡ runIn (mem (now (wires .entry)) (now (coefs .entry)) nums biases) at run cur bit k other) ⌝ }
+        ≡ runIn (mem (now (wires .entry)) (now (coefs .entry)) nums biases) at run cursor bit k other) ⌝ }
 {
     let r = builder_table::plus(wires, coefs, at, run, bit);
     let runs = r.form;
@@ -114,13 +114,13 @@ fn add_run(
     let x = builder_table::scaled(wires, coefs, u, bit, k as f32);
     let times = x.form;
     let v = x.builder;
-    let c = builder_table::plus(wires, coefs, v, cur, times);
+    let c = builder_table::plus(wires, coefs, v, cursor, times);
     let curs = c.form;
     let w = c.builder;
     Picked {
         other,
         run: runs,
-        cur: curs,
+        cursor: curs,
         builder: w,
     }
 }
@@ -141,7 +141,7 @@ fn pick_one(
 {
     let at = p.builder;
     let run = p.run;
-    let cur = p.cur;
+    let cursor = p.cursor;
     let stop = builder_table::load(nums, biases, Table::STOPS + k);
     let a = builder::and(wires, coefs, nums, biases, at, Bit(stop), Bit(finished));
     let abit = a.bit;
@@ -155,7 +155,7 @@ fn pick_one(
     let o = builder_table::plus(wires, coefs, v, others, af);
     let of = o.form;
     let w = o.builder;
-    add_run(wires, coefs, w, run, cur, bf, k, of)
+    add_run(wires, coefs, w, run, cursor, bf, k, of)
 }
 
 pub fn picks(

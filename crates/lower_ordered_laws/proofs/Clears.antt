@@ -1,4 +1,4 @@
--- The second loop of lower_ordered followed: the slots of clear stand for the construction's. Assumes nothing.
+-- The second loop of lower_ordered followed: the slots of clear stand for the construction's.
 use Prim.Native.Nat.{ℕ, suc, _+_, _≤_, _<_}
 use native.Mathlib.Omega.{arith}
 use mathlib.Core.Path.{_≡_, refl, ap}
@@ -7,7 +7,7 @@ use lib.ListN.{length, length-map}
 use Rattle.wire.specs.declared.Form.{Form}
 use Rattle.wire.specs.Terms.{Affine}
 use Rattle.construct.specs.Builder.{Op, isZero}
-use Rattle.construct.specs.Lower.{Kid1, Kid2, Many, clears}
+use Rattle.construct.specs.Lower.{GatedChild, ClearedChild, Many, clears}
 use Rattle.construct_floats.specs.Floats.{floats}
 use Rattle.builder_table.specs.declared.Builder.{Builder}
 use Rattle.builder_table.specs.Work.{Mem, Ended, loaded, Stood}
@@ -15,25 +15,25 @@ use Rattle.builder_laws.specs.Table.{Stands}
 use Rattle.builder.specs.Bits.{isZeroIn}
 use Rattle.builder_table.specs.Slots.{blockedFrom, clearFrom}
 use Rattle.lower_passes.specs.Gates.{clearIn, clearsIn}
-use Rattle.lower_room.specs.Uses.{plusUse, clearsUse}
-use Rattle.builder_laws.specs.Runs.{Not, Runs, Rows}
+use Rattle.lower_room.proofs.Uses.{plusUse, clearsUse}
+use Rattle.builder_laws.proofs.Running.{Not, Runs, Rows}
 use Rattle.builder_laws.proofs.Runs.{slot-kept, rows-kept, slot-filled, Ready, runs-none, runs-then, runs-less, runs-wide, ready-after, stands-after, saved-runs}
 use Rattle.builder_laws.proofs.Steps.{plus-runs, zero-runs}
 use Rattle.lower_ordered_laws.proofs.Gates.{blockeds}
 
 -- ---- the construction's lists
 
-abbrev pub clearBits : List (Kid2 Affine) → List Affine
-clearBits xs = map (λ (x : Kid2 Affine). x .clear) xs
+abbrev pub clearBits : List (ClearedChild Affine) → List Affine
+clearBits xs = map (λ (x : ClearedChild Affine). x .clear) xs
 
 module _ (n : ℕ) where
-  pub clears-count : (pre : Affine) (xs : List (Kid1 Affine)) (os : List (Op Affine)) → length (clears floats n pre xs os .items) ≡ length xs
+  pub clears-count : (pre : Affine) (xs : List (GatedChild Affine)) (os : List (Op Affine)) → length (clears floats n pre xs os .items) ≡ length xs
   unfolding clears
   clears-count pre [] os = refl
   clears-count pre (x ∷ xs) os = ap suc (clears-count _ xs _)
 
-  pub clears-kids : (part : Kid1 Affine → Affine) (pre : Affine) (xs : List (Kid1 Affine)) (os : List (Op Affine))
-      → map (λ (x : Kid2 Affine). part (x .kid)) (clears floats n pre xs os .items) ≡ map part xs
+  pub clears-kids : (part : GatedChild Affine → Affine) (pre : Affine) (xs : List (GatedChild Affine)) (os : List (Op Affine))
+      → map (λ (x : ClearedChild Affine). part (x .child)) (clears floats n pre xs os .items) ≡ map part xs
   unfolding clears
   clears-kids part pre [] os = refl
   clears-kids part pre (x ∷ xs) os = ap (part x ∷_) (clears-kids part _ xs _)
@@ -67,11 +67,11 @@ clear-one {K = K} {m} {b} {earlier = earlier} k r hp hx l p =
 
 -- ---- all children
 
-pub record ClearsRun (m : Mem) (b : Builder) (k count need : ℕ) (e : Stood) (o : Many Affine (Kid2 Affine)) : Type 0 where
+pub record ClearsRun (m : Mem) (b : Builder) (k count need : ℕ) (e : Stood) (o : Many Affine (ClearedChild Affine)) : Type 0 where
   pub runs : Runs (Not (clearFrom + k) (clearFrom + k + count)) m b (e .mem) (e .builder) (o .ops) need count
   pub clear : Rows (e .mem) (e .builder) (clearFrom + k) (clearBits (o .items))
 
-pub clears-run : {n : ℕ} {m : Mem} {b : Builder} {os : List (Op Affine)} {earlier : Form} {pre : Affine} (k : ℕ) (xs : List (Kid1 Affine))
+pub clears-run : {n : ℕ} {m : Mem} {b : Builder} {os : List (Op Affine)} {earlier : Form} {pre : Affine} (k : ℕ) (xs : List (GatedChild Affine))
     → Ready n m b os → Stands m b earlier pre → Rows m b (blockedFrom + k) (blockeds xs) → k + length xs ≤ 128
     → ClearsRun m b k (length xs) (clearsUse floats n pre xs) (clearsIn m b earlier k (length xs)) (clears floats n pre xs os)
 unfolding clears clearsIn clearsUse

@@ -1,4 +1,4 @@
--- The first loop of lower_ordered followed: the slots of before and blocked stand for the construction's. Assumes nothing.
+-- The first loop of lower_ordered followed: the slots of before and blocked stand for the construction's.
 use Prim.Native.Nat.{ℕ, suc, _+_, _-_, _*_, _≤_, _<_}
 use native.Mathlib.Omega.{arith}
 use native.Mathlib.Numerals.{add-one}
@@ -8,7 +8,7 @@ use lib.ListN.{length}
 use Rattle.wire.specs.declared.Form.{Form}
 use Rattle.wire.specs.Terms.{Affine}
 use Rattle.construct.specs.Builder.{Op, atLeast, or, not′}
-use Rattle.construct.specs.Lower.{Trip, Kid1, Many, gates}
+use Rattle.construct.specs.Lower.{StatusBits, GatedChild, Many, gates}
 use Rattle.construct_floats.specs.Floats.{number, floats}
 use Rattle.builder_table.specs.declared.Builder.{Builder}
 use Rattle.builder_table.specs.Work.{Mem, loaded, Stood}
@@ -16,28 +16,28 @@ use Rattle.builder_laws.specs.Table.{Stands}
 use Rattle.builder.specs.Bits.{atLeastIn}
 use Rattle.builder_table.specs.Slots.{beforeFrom, blockedFrom}
 use Rattle.lower_passes.specs.Gates.{blockIn, gateIn, gatesIn}
-use Rattle.lower_room.specs.Uses.{orUse, gatesUse}
-use Rattle.builder_laws.specs.Runs.{Not, Runs, Rows, Falls}
+use Rattle.lower_room.proofs.Uses.{orUse, gatesUse}
+use Rattle.builder_laws.proofs.Running.{Not, Runs, Rows, Falls}
 use Rattle.builder_laws.proofs.Runs.{slot-kept, falls-kept, slot-filled, Ready, runs-none, runs-then, runs-less, runs-wide, ready-after, stands-after, saved-runs}
 use Rattle.builder_laws.proofs.Steps.{not-runs, least-runs, or-runs}
-use Rattle.lower_ordered_laws.specs.Orders.{ss}
+use Rattle.lower_ordered_laws.proofs.Orders.{ss}
 
 -- ---- the construction's lists
 
-abbrev pub befores : List (Kid1 Affine) → List Affine
-befores xs = map (λ (x : Kid1 Affine). x .before) xs
+abbrev pub befores : List (GatedChild Affine) → List Affine
+befores xs = map (λ (x : GatedChild Affine). x .before) xs
 
-abbrev pub blockeds : List (Kid1 Affine) → List Affine
-blockeds xs = map (λ (x : Kid1 Affine). x .blocked) xs
+abbrev pub blockeds : List (GatedChild Affine) → List Affine
+blockeds xs = map (λ (x : GatedChild Affine). x .blocked) xs
 
 module _ (n : ℕ) (c : Affine) where
-  pub gates-count : (k : ℕ) (ts : List (Trip Affine)) (os : List (Op Affine)) → length (gates floats n c k ts os .items) ≡ length ts
+  pub gates-count : (k : ℕ) (ts : List (StatusBits Affine)) (os : List (Op Affine)) → length (gates floats n c k ts os .items) ≡ length ts
   unfolding gates
   gates-count k [] os = refl
   gates-count k (t ∷ ts) os = ap suc (gates-count (suc k) ts _)
 
-  pub gates-trips : (part : Trip Affine → Affine) (k : ℕ) (ts : List (Trip Affine)) (os : List (Op Affine))
-      → map (λ (x : Kid1 Affine). part (x .trip)) (gates floats n c k ts os .items) ≡ map part ts
+  pub gates-trips : (part : StatusBits Affine → Affine) (k : ℕ) (ts : List (StatusBits Affine)) (os : List (Op Affine))
+      → map (λ (x : GatedChild Affine). part (x .status)) (gates floats n c k ts os .items) ≡ map part ts
   unfolding gates
   gates-trips part k [] os = refl
   gates-trips part k (t ∷ ts) os = ap (part t ∷_) (gates-trips part (suc k) ts _)
@@ -97,12 +97,12 @@ gate-one {n} {K} {m} {b} {os} {cursor} {t} {c} {x} k r hc ht l p q =
 abbrev pub NotGates : ℕ → ℕ → ℕ → Type 0
 NotGates k count j = Not (beforeFrom + k) (beforeFrom + k + count) j × Not (blockedFrom + k) (blockedFrom + k + count) j
 
-pub record GatesRun (m : Mem) (b : Builder) (k count need : ℕ) (e : Stood) (o : Many Affine (Kid1 Affine)) : Type 0 where
+pub record GatesRun (m : Mem) (b : Builder) (k count need : ℕ) (e : Stood) (o : Many Affine (GatedChild Affine)) : Type 0 where
   pub runs : Runs (NotGates k count) m b (e .mem) (e .builder) (o .ops) need (3 * count)
   pub before : Rows (e .mem) (e .builder) (beforeFrom + k) (befores (o .items))
   pub blocked : Rows (e .mem) (e .builder) (blockedFrom + k) (blockeds (o .items))
 
-pub gates-run : {n : ℕ} {m : Mem} {b : Builder} {os : List (Op Affine)} {cursor : Form} {c : Affine} (top k : ℕ) (ts : List (Trip Affine))
+pub gates-run : {n : ℕ} {m : Mem} {b : Builder} {os : List (Op Affine)} {cursor : Form} {c : Affine} (top k : ℕ) (ts : List (StatusBits Affine))
     → Ready n m b os → Stands m b cursor c → Falls m b (top - k) (ss ts) → top < beforeFrom → k + length ts ≤ 128
     → GatesRun m b k (length ts) (gatesUse floats n c k ts os) (gatesIn m b cursor top k (length ts)) (gates floats n c k ts os)
 unfolding gates gatesIn gatesUse

@@ -3,5 +3,7 @@ pub mod Counts
 pub mod Gates
 pub mod Kept
 pub mod Ordered
+pub mod Orders
+pub mod Passes
 pub mod Picks
 pub mod Stops

@@ -8,43 +8,43 @@ use lib.ListN.{length, length-map}
 use Rattle.wire.specs.declared.Form.{Form}
 use Rattle.wire.specs.Terms.{Affine}
 use Rattle.construct.specs.Builder.{Op, and, not′}
-use Rattle.construct.specs.Lower.{Trip, Kid2, Kid3, Many, stops, total}
+use Rattle.construct.specs.Lower.{StatusBits, ClearedChild, ArbitratedChild, Many, stops, total}
 use Rattle.construct_floats.specs.Floats.{floats}
 use Rattle.builder_table.specs.declared.Builder.{Builder}
 use Rattle.builder_table.specs.Work.{Mem, Ended, loaded, saved}
 use Rattle.builder_laws.specs.Table.{Stands}
 use Rattle.builder_table.specs.Slots.{beforeFrom, blockedFrom, clearFrom, stopsFrom, reachFrom, afterStopFrom}
 use Rattle.lower_passes.specs.Stops.{reachIn, stopIn, stopsIn}
-use Rattle.lower_room.specs.Uses.{plusUse, stopsUse}
-use Rattle.builder_laws.specs.Runs.{Not, Runs, Rows}
+use Rattle.lower_room.proofs.Uses.{plusUse, stopsUse}
+use Rattle.builder_laws.proofs.Running.{Not, Runs, Rows}
 use Rattle.builder_laws.proofs.Runs.{slot-kept, rows-kept, slot-filled, Ready, runs-none, runs-then, runs-less, runs-wide, ready-after, stands-after, saved-runs}
 use Rattle.builder_laws.proofs.Steps.{not-runs, plus-runs, and-runs}
-use Rattle.lower_ordered_laws.specs.Orders.{reaches, afters}
+use Rattle.lower_ordered_laws.proofs.Orders.{reaches, afters}
 use Rattle.lower_ordered_laws.proofs.Gates.{Filled}
 use Rattle.lower_ordered_laws.proofs.Clears.{Summed, clearBits}
 
 -- ---- the construction's lists
 
-abbrev pub stopBits : List (Kid3 Affine) → List Affine
-stopBits xs = map (λ (x : Kid3 Affine). x .stop) xs
+abbrev pub stopBits : List (ArbitratedChild Affine) → List Affine
+stopBits xs = map (λ (x : ArbitratedChild Affine). x .stop) xs
 
-abbrev pub kidBefores : List (Kid2 Affine) → List Affine
-kidBefores xs = map (λ (x : Kid2 Affine). x .kid .before) xs
+abbrev pub kidBefores : List (ClearedChild Affine) → List Affine
+kidBefores xs = map (λ (x : ClearedChild Affine). x .child .before) xs
 
-abbrev pub kidBlockeds : List (Kid2 Affine) → List Affine
-kidBlockeds xs = map (λ (x : Kid2 Affine). x .kid .blocked) xs
+abbrev pub kidBlockeds : List (ClearedChild Affine) → List Affine
+kidBlockeds xs = map (λ (x : ClearedChild Affine). x .child .blocked) xs
 
 module _ (n : ℕ) where
-  pub stops-count : (acc : Affine) (xs : List (Kid2 Affine)) (os : List (Op Affine)) → length (stops floats n acc xs os .items) ≡ length xs
+  pub stops-count : (acc : Affine) (xs : List (ClearedChild Affine)) (os : List (Op Affine)) → length (stops floats n acc xs os .items) ≡ length xs
   unfolding stops
   stops-count acc [] os = refl
   stops-count acc (x ∷ xs) os = ap suc (stops-count _ xs _)
 
-  pub stops-trips : (part : Trip Affine → Affine) (acc : Affine) (xs : List (Kid2 Affine)) (os : List (Op Affine))
-      → map (λ (x : Kid3 Affine). part (x .trip)) (stops floats n acc xs os .items) ≡ map (λ (x : Kid2 Affine). part (x .kid .trip)) xs
+  pub stops-trips : (part : StatusBits Affine → Affine) (acc : Affine) (xs : List (ClearedChild Affine)) (os : List (Op Affine))
+      → map (λ (x : ArbitratedChild Affine). part (x .status)) (stops floats n acc xs os .items) ≡ map (λ (x : ClearedChild Affine). part (x .child .status)) xs
   unfolding stops
   stops-trips part acc [] os = refl
-  stops-trips part acc (x ∷ xs) os = ap (part (x .kid .trip) ∷_) (stops-trips part _ xs _)
+  stops-trips part acc (x ∷ xs) os = ap (part (x .child .status) ∷_) (stops-trips part _ xs _)
 
 -- ---- one child
 
@@ -125,14 +125,14 @@ turn {sum = sum} k row r ha hb hd hc l l′ =
 abbrev pub NotStops : ℕ → ℕ → ℕ → ℕ → Type 0
 NotStops row k count j = Not (stopsFrom + k) (stopsFrom + k + count) j × Not (reachFrom + (row + k)) (reachFrom + (row + k) + count) j × Not (afterStopFrom + (row + k)) (afterStopFrom + (row + k) + count) j
 
-pub record StopsRun (m : Mem) (b : Builder) (row k count need : ℕ) (e : Ended) (acc : Affine) (o : Many Affine (Kid3 Affine)) : Type 0 where
+pub record StopsRun (m : Mem) (b : Builder) (row k count need : ℕ) (e : Ended) (acc : Affine) (o : Many Affine (ArbitratedChild Affine)) : Type 0 where
   pub runs : Runs (NotStops row k count) m b (e .mem) (e .builder) (o .ops) need (2 * count)
   pub stop : Rows (e .mem) (e .builder) (stopsFrom + k) (stopBits (o .items))
   pub reach : Rows (e .mem) (e .builder) (reachFrom + (row + k)) (reaches (o .items))
   pub after : Rows (e .mem) (e .builder) (afterStopFrom + (row + k)) (afters (o .items))
   pub form : Stands (e .mem) (e .builder) (e .form) (total floats acc (o .items))
 
-pub stops-run : {n : ℕ} {m : Mem} {b : Builder} {os : List (Op Affine)} {sum : Form} {acc : Affine} (row k : ℕ) (xs : List (Kid2 Affine))
+pub stops-run : {n : ℕ} {m : Mem} {b : Builder} {os : List (Op Affine)} {sum : Form} {acc : Affine} (row k : ℕ) (xs : List (ClearedChild Affine))
     → Ready n m b os → Stands m b sum acc → Rows m b (beforeFrom + k) (kidBefores xs) → Rows m b (blockedFrom + k) (kidBlockeds xs) → Rows m b (clearFrom + k) (clearBits xs)
     → row + k + length xs ≤ 128
     → StopsRun m b row k (length xs) (stopsUse floats n acc xs os) (stopsIn m b sum row k (length xs)) acc (stops floats n acc xs os)

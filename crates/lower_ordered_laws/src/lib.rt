@@ -1,1 +1,1 @@
-// Definitions, and laws on numbers: what stands in the table after each pass.
+// Definitions and laws alone: lower_ordered leaves the construction's `lowerSeq`; what the passes have left, as facts of slots.

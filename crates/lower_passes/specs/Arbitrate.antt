@@ -1,6 +1,6 @@
 -- arbitrate on all that is lent: from the last node to the first, what each would return if it were ticked, with a stack of the statuses that no parent has
 -- taken yet. Where a node asks for what is not there (a child, a leaf slot, a cursor cell, a row), which no tree does, nothing is done and the flag falls.
--- Definitions only.
+-- Inner: the shape of the code; nobody need believe it.
 use Prim.Native.Nat.{ℕ, zero, suc, _+_, _-_, _*_, _≤_}
 use mathlib.Core.Bool.{Bool, true, false, cond, _&&_}
 use mathlib.Core.List.{List}
@@ -96,7 +96,7 @@ unfoldable pub compositeIn : Mem → Up → ℕ → Bool → Form → ℕ → Ra
 compositeIn m u i on cursor n =
     let o = loweredIn m (u .builder) cursor on (u .depth - 1) (u .row) n in
     record {
-      mem = saved (rawIn (o .mem) i (u .depth - n) (statusOf on (o .ordered))) (arbitratedFrom + i) (o .ordered .cur);
+      mem = saved (rawIn (o .mem) i (u .depth - n) (statusOf on (o .ordered))) (arbitratedFrom + i) (o .ordered .cursor);
       up = up (o .ordered .builder) (u .depth - n + 1) (u .row + n) (u .slot) (u .cell);
     }
 

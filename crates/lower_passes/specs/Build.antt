@@ -1,4 +1,5 @@
--- The building phase: arbitrate, reach, next running, in the Rust's op order, from an empty arena and no ops. Definitions only.
+-- The building phase: arbitrate, reach, next running, in the Rust's op order, from an empty arena and no ops.
+-- Inner: the shape of the code; nobody need believe it.
 use Prim.Native.Nat.{ℕ, _+_, _*_}
 use mathlib.Core.Bool.{true}
 use mathlib.Core.List.{List}

@@ -1,4 +1,5 @@
--- The code's `Flat` as the construction's: a node's family, and its child count where it may have any. Definitions only.
+-- The code's `Flat` as the construction's: a node's family, and its child count where it may have any.
+-- Inner: the shape of the code; nobody need believe it.
 use Rattle.construct.specs.Lower as L
 use Rattle.lower_passes.specs.declared.Flat.{Flat}
 

@@ -1,8 +1,6 @@
 -- The first two loops of lower_ordered on all that is lent: whether the walk gets past each child, and whether every earlier child was passed.
--- Children stand on a stack with the first on top, so the k-th child's form is k slots below. Definitions only.
+-- Children stand on a stack with the first on top, so the k-th child's form is k slots below. Inner: the shape of the code; nobody need believe it.
 use Prim.Native.Nat.{ℕ, zero, suc, _+_, _-_}
-use mathlib.Core.List.{List}
-use lib.Ieee.{Float}
 use Rattle.wire.specs.declared.Form.{Form}
 use Rattle.construct_floats.specs.Floats.{number}
 use Rattle.builder_table.specs.declared.Builder.{Builder}

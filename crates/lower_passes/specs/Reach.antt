@@ -1,5 +1,6 @@
 -- reach and the next running flags on all that is lent: from the first node to the last, whether it is ticked or halted, with a stack of what nodes to come
--- are told by their parents. Where something asked for is not there, which no tree does, nothing is done and the flag falls. Definitions only.
+-- are told by their parents. Where something asked for is not there, which no tree does, nothing is done and the flag falls.
+-- Inner: the shape of the code; nobody need believe it.
 use Prim.Native.Nat.{ℕ, zero, suc, _+_, _-_, _≤_}
 use mathlib.Core.Bool.{Bool, true, false, cond, _&&_}
 use mathlib.Core.List.{List}

@@ -1,4 +1,5 @@
--- The last two loops of lower_ordered on all that is lent: which children are reached, where the walk stops, and the stop's status. Definitions only.
+-- The last two loops of lower_ordered on all that is lent: which children are reached, where the walk stops, and the stop's status.
+-- Inner: the shape of the code; nobody need believe it.
 use Prim.Native.Nat.{ℕ, zero, suc, _+_, _-_}
 use mathlib.Core.List.{List}
 use lib.Ieee.{Float}
@@ -48,14 +49,14 @@ runIn m b run cur bit k other =
     let r = plusIn m b run bit in
     let x = scaledIn (r .mem) (r .builder) bit (number k) in
     let c = plusIn (x .mem) (x .builder) cur (x .form) in
-    record { mem = c .mem; picked = record { other = other; run = r .form; cur = c .form; builder = c .builder } }
+    record { mem = c .mem; picked = record { other = other; run = r .form; cursor = c .form; builder = c .builder } }
 
 unfoldable pub pickIn : Mem → Picked → ℕ → Form → Form → Chosen
 pickIn m p k finished running =
     let a = andIn m (p .builder) (loaded m (stopsFrom + k)) finished in
     let r = andIn (a .mem) (a .builder) (loaded m (stopsFrom + k)) running in
     let o = plusIn (r .mem) (r .builder) (p .other) (a .form) in
-    runIn (o .mem) (o .builder) (p .run) (p .cur) (r .form) k (o .form)
+    runIn (o .mem) (o .builder) (p .run) (p .cursor) (r .form) k (o .form)
 
 -- the children's other finished bits, and their running bits, stand below `others` and `runs`, the first child's on top
 unfoldable pub picksIn : Mem → Picked → ℕ → ℕ → ℕ → ℕ → Chosen

@@ -6,7 +6,7 @@ use wire::Form;
 pub struct Picked {
     pub other: Form,
     pub run: Form,
-    pub cur: Form,
+    pub cursor: Form,
     pub builder: Builder,
 }
 
@@ -15,7 +15,7 @@ pub struct Ordered {
     pub advance: Form,
     pub other: Form,
     pub run: Form,
-    pub cur: Form,
+    pub cursor: Form,
     pub builder: Builder,
 }
 

@@ -1,4 +1,4 @@
--- Each way through a step's code, and the loop's turns. Assumes nothing.
+-- Each way through a step's code, and the loop's turns.
 use Prim.Native.Nat.{ℕ, suc, _+_, _-_, _<_, _≤_}
 use native.Mathlib.Omega.{arith}
 use mathlib.Core.Path.{_≡_, ap, _∙_}

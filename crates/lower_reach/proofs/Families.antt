@@ -1,4 +1,4 @@
--- A step depends on a node's family alone, and the code's tests tell the family of a kind. Assumes nothing.
+-- A step depends on a node's family alone, and the code's tests tell the family of a kind.
 use Prim.Native.Nat.{ℕ, zero, suc}
 use native.Mathlib.Omega.{arith}
 use mathlib.Core.Path.{_≡_, refl, ap, sym, _∙_}

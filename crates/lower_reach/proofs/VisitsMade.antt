@@ -1,4 +1,4 @@
--- What the code of each family leaves, as a chain of what its callees leave. Assumes nothing.
+-- What the code of each family leaves, as a chain of what its callees leave.
 use Prim.Native.Nat.{ℕ, _+_, _-_}
 use mathlib.Core.Path.{_≡_}
 use mathlib.Core.Bool.{true, false}

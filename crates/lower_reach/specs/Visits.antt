@@ -1,4 +1,4 @@
--- What every node makes of the entry on top of the stack: the first part of reach's step. Definitions only.
+-- What every node makes of the entry on top of the stack: the first part of reach's step. Inner: the shape of the code; nobody need believe it.
 use Prim.Native.Nat.{ℕ, _+_, _-_}
 use mathlib.Core.List.{List}
 use lib.Ieee.{Float}

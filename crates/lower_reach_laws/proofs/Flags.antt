@@ -1,4 +1,4 @@
--- The next running flags are the construction's `flags`. Assumes nothing.
+-- The next running flags are the construction's `flags`.
 use Prim.Native.Nat.{ℕ, suc, _+_, _≤_, _<_}
 use native.Mathlib.Omega.{arith}
 use native.Mathlib.Numerals.{add-one}
@@ -8,39 +8,39 @@ use mathlib.Core.List.{List, [], _∷_}
 use lib.ListN.{length}
 use Rattle.wire.specs.Terms.{Affine}
 use Rattle.construct.specs.Builder.{Op, Out, and}
-use Rattle.construct.specs.Lower.{NOut, flags}
+use Rattle.construct.specs.Lower.{NodeReach, flags}
 use Rattle.construct_floats.specs.Floats.{floats}
 use Rattle.builder_table.specs.declared.Builder.{Builder}
 use Rattle.builder_table.specs.Work.{Mem, loaded, Stood}
 use Rattle.builder_laws.specs.Table.{Stands}
 use Rattle.builder_laws.proofs.Lasts.{size}
-use Rattle.lower_room.specs.Uses.{flagsUse}
-use Rattle.builder_laws.specs.Runs.{Runs}
+use Rattle.lower_room.proofs.Uses.{flagsUse}
+use Rattle.builder_laws.proofs.Running.{Runs}
 use Rattle.builder_laws.proofs.Runs.{slot-kept, Ready, runs-none, runs-then, runs-less, runs-wide, ready-after, stands-after}
 use Rattle.builder_laws.proofs.Steps.{wire-runs, and-runs, plus-runs}
 use Rattle.builder_table.specs.Slots.{untouchedFrom, nextRunningFrom}
 use Rattle.lower_passes.specs.Reach.{flagIn, flagsIn}
-use Rattle.lower_ordered_laws.specs.Passes.{OutAt, OutsAt}
+use Rattle.lower_ordered_laws.proofs.Passes.{OutAt, OutsAt}
 use Rattle.lower_ordered_laws.proofs.Kept.{OutSlots, outs-kept}
 use Rattle.lower_reach_laws.proofs.Store.{store-runs}
-use Rattle.lower_reach_laws.specs.Downward.{Flagless, FlagsRuns, FlagsLaw}
+use Rattle.lower_reach_laws.proofs.Downward.{Flagless, FlagsRuns, FlagsLaw}
 
 -- reached AND running; untouched AND the flag
-abbrev running : ℕ → NOut Affine → List (Op Affine) → Out Affine
-running n x os = and floats n (x .reached) (x .raw .r) os
+abbrev running : ℕ → NodeReach Affine → List (Op Affine) → Out Affine
+running n x os = and floats n (x .reached) (x .raw .running) os
 
-abbrev unticked : ℕ → NOut Affine → List (Op Affine) → Out Affine
+abbrev unticked : ℕ → NodeReach Affine → List (Op Affine) → Out Affine
 unticked n x os = and floats n (x .untouched) (x .was) (running n x os .ops)
 
-record Flagged (n i : ℕ) (m : Mem) (b : Builder) (x : NOut Affine) (os : List (Op Affine)) (e : Stood) : Type 0 where
+record Flagged (n i : ℕ) (m : Mem) (b : Builder) (x : NodeReach Affine) (os : List (Op Affine)) (e : Stood) : Type 0 where
   runs : Runs (Flagless i) m b (e .mem) (e .builder) (unticked n x os .ops) (3 + (size (running n x os .form) + size (unticked n x os .form))) 2
   flag : Stands (e .mem) (e .builder) (loaded (e .mem) (nextRunningFrom + i)) (floats .plus (running n x os .form) (unticked n x os .form))
 
 -- one node
-flag-law : {n : ℕ} {m : Mem} {b : Builder} {os : List (Op Affine)} → Ready n m b os → (i : ℕ) (x : NOut Affine) → OutAt m b i x → i < 128 → Flagged n i m b x os (flagIn m b i)
+flag-law : {n : ℕ} {m : Mem} {b : Builder} {os : List (Op Affine)} → Ready n m b os → (i : ℕ) (x : NodeReach Affine) → OutAt m b i x → i < 128 → Flagged n i m b x os (flagIn m b i)
 unfolding flagIn
 flag-law r i x h l =
-    let a = and-runs {K = Flagless i} r (h .reached) (h .raw .r) in
+    let a = and-runs {K = Flagless i} r (h .reached) (h .raw .running) in
     let ra = ready-after (a .runs) r in
     let w = wire-runs {K = Flagless i} ra i in
     let rw′ = ready-after (w .runs) ra in
@@ -64,17 +64,17 @@ flags-more : (m : Mem) (b : Builder) (i rest : ℕ) → flagsIn m b i (suc rest)
 unfolding flagsIn
 flags-more m b i rest = ap (λ (j : ℕ). flagsIn (flagIn m b i .mem) (flagIn m b i .builder) j rest) (add-one i)
 
-flags-from : {n : ℕ} {m : Mem} {b : Builder} {os : List (Op Affine)} → Ready n m b os → (i nN : ℕ) (outs : List (NOut Affine)) → OutsAt m b i outs → i + length outs ≤ 128
-    → FlagsRuns i (length outs) (flagsUse floats n outs os) m b (flagsIn m b i (length outs)) (flags floats n nN outs os)
+flags-from : {n : ℕ} {m : Mem} {b : Builder} {os : List (Op Affine)} → Ready n m b os → (i cursorsAt : ℕ) (outs : List (NodeReach Affine)) → OutsAt m b i outs → i + length outs ≤ 128
+    → FlagsRuns i (length outs) (flagsUse floats n outs os) m b (flagsIn m b i (length outs)) (flags floats n cursorsAt outs os)
 unfolding flags flagsUse
-flags-from {m = m} {b = b} r i nN [] h l = rw (flags-none m b i) (record { runs = runs-none r; rows = tt })
-flags-from {n} {m} {b} {os} r i nN (x ∷ xs) h l =
+flags-from {m = m} {b = b} r i cursorsAt [] h l = rw (flags-none m b i) (record { runs = runs-none r; rows = tt })
+flags-from {n} {m} {b} {os} r i cursorsAt (x ∷ xs) h l =
     let f = flag-law r i x (h .0) (omega arith) in
-    let t = flags-from (ready-after (f .runs) r) (suc i) nN xs (outs-kept (f .runs .keeps) (suc i) xs (omega arith) (λ j p q. flags-apart i j (omega arith)) (h .1)) (omega arith) in
+    let t = flags-from (ready-after (f .runs) r) (suc i) cursorsAt xs (outs-kept (f .runs .keeps) (suc i) xs (omega arith) (λ j p q. flags-apart i j (omega arith)) (h .1)) (omega arith) in
     rw (flags-more m b i (length xs)) (record {
       runs = runs-wide (runs-then (f .runs) (runs-less (t .runs) (λ k q p s. q (omega arith) s))) _ _ (omega arith) (omega arith);
       rows = (slot-kept (t .runs .keeps) (nextRunningFrom + i) (omega arith) (omega arith) (f .flag), rw (add-suc nextRunningFrom i) at (t .rows));
     })
 
 pub flags-law : FlagsLaw
-flags-law m b i nN outs os w q h l = flags-from (record { whole = w; cells = refl; ops = q }) i nN outs h l
+flags-law m b i cursorsAt outs os w q h l = flags-from (record { whole = w; cells = refl; ops = q }) i cursorsAt outs h l

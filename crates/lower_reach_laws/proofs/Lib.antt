@@ -1,4 +1,5 @@
 pub mod Counts
+pub mod Downward
 pub mod Flags
 pub mod Kids
 pub mod Node

@@ -1,4 +1,4 @@
--- The three first steps at a node, on memory: halted, untouched, and its next cursor where it has one. Assumes nothing.
+-- The three first steps at a node, on memory: halted, untouched, and its next cursor where it has one.
 use Prim.Native.Nat.{ℕ, _+_, _*_, _≤_, _<_}
 use native.Mathlib.Omega.{arith}
 use native.Mathlib.Numerals.{add-one}
@@ -14,13 +14,13 @@ use Rattle.builder_table.specs.declared.Builder.{Builder}
 use Rattle.builder_table.specs.Work.{Mem, Ended, loaded, Stood}
 use Rattle.builder_laws.specs.Table.{Stands}
 use Rattle.builder_laws.proofs.Lasts.{size, push-size}
-use Rattle.lower_room.specs.Uses.{curUse}
-use Rattle.builder_laws.specs.Runs.{Not, Runs, Rows}
+use Rattle.lower_room.proofs.Uses.{curUse}
+use Rattle.builder_laws.proofs.Running.{Not, Runs, Rows}
 use Rattle.builder_laws.proofs.Runs.{slot-kept, Ready, runs-none, runs-then, runs-wide, ready-after, stands-after}
 use Rattle.builder_laws.proofs.Steps.{wire-runs, not-runs, plus-runs, push-runs, and-runs}
 use Rattle.builder_table.specs.Slots.{arbitratedFrom, nextCursorFrom, reachedFrom, haltedFrom, untouchedFrom}
 use Rattle.lower_passes.specs.Reach.{Lowered, down, haltIn, untouchedIn, keepIn, cursorIn, turnIn}
-use Rattle.lower_ordered_laws.specs.Passes.{CurAt}
+use Rattle.lower_ordered_laws.proofs.Passes.{CurAt}
 use Rattle.lower_reach_laws.proofs.Store.{store-runs}
 
 -- every slot but j
@@ -95,16 +95,16 @@ pub record TurnRuns (c d row : ℕ) (node : Flat) (need : ℕ) (m : Mem) (b : Bu
   pub cursor : Rows (e .mem) (e .down .builder) (nextCursorFrom + c) (k .items)
   pub down : e .down ≡ down (e .down .builder) d row (cellAfter node c)
 
-module _ {n : ℕ} {m : Mem} {b : Builder} {os : List (Op Affine)} (z : Ready n m b os) (i c d row nN : ℕ) (l : i < 128) {r u : Affine} (hr : Stands m b (loaded m (reachedFrom + i)) r)
+module _ {n : ℕ} {m : Mem} {b : Builder} {os : List (Op Affine)} (z : Ready n m b os) (i c d row cursorsAt : ℕ) (l : i < 128) {r u : Affine} (hr : Stands m b (loaded m (reachedFrom + i)) r)
     (hu : Stands m b (loaded m (untouchedFrom + i)) u) where
   memory-law : (on : Bool) (k : ℕ) (x : Affine) → c < 128 → Stands m b (loaded m (arbitratedFrom + i)) x
-      → TurnRuns c d row (ordered true on k) (curUse floats n (ordered true on k)) m b (nextCur floats n nN (ordered true on k) c r u x os) (turnIn m (down b d row c) i (ordered true on k) nN)
+      → TurnRuns c d row (ordered true on k) (curUse floats n (ordered true on k)) m b (nextCur floats n cursorsAt (ordered true on k) c r u x os) (turnIn m (down b d row c) i (ordered true on k) cursorsAt)
   unfolding cursorIn keepIn nextCur
   memory-law on k x lc hx =
       let K = Unturned c (ordered true on k) in
       let a = push-runs {K = K} z hx hr in
       let za = ready-after (a .runs) z in
-      let w = wire-runs {K = K} za (nN + c) in
+      let w = wire-runs {K = K} za (cursorsAt + c) in
       let zw = ready-after (w .runs) za in
       let h = stands-after (w .runs) (slot-kept (a .runs .keeps) (untouchedFrom + i) (omega arith) (omega arith) hu) in
       let s = push-runs {K = K} zw (w .form) h in
@@ -113,13 +113,13 @@ module _ {n : ℕ} {m : Mem} {b : Builder} {os : List (Op Affine)} (z : Ready n 
       let v = store-runs {K = K} (ready-after (t .runs) zs) (nextCursorFrom + c) (omega arith) (λ q. q (omega arith) (omega arith)) (t .form) in
       record {
         runs = runs-wide (runs-then (a .runs) (runs-then (w .runs) (runs-then (s .runs) (runs-then (t .runs) (v .runs))))) _ _
-            (omega (arith, push-size n x r os, push-size n (floats .wire (nN + c)) u (push floats n x r os .ops))) (omega arith);
+            (omega (arith, push-size n x r os, push-size n (floats .wire (cursorsAt + c)) u (push floats n x r os .ops))) (omega arith);
         cursor = (v .slot, tt);
-        down = ap (λ (j : ℕ). down (cursorIn m b i c nN .builder) d row j) (add-one c);
+        down = ap (λ (j : ℕ). down (cursorIn m b i c cursorsAt .builder) d row j) (add-one c);
       }
 
   pub turn-law : (node : Flat) (x : Affine) → cellAfter node c ≤ 128 → CurAt m b i node x
-      → TurnRuns c d row node (curUse floats n node) m b (nextCur floats n nN node c r u x os) (turnIn m (down b d row c) i node nN)
+      → TurnRuns c d row node (curUse floats n node) m b (nextCur floats n cursorsAt node c r u x os) (turnIn m (down b d row c) i node cursorsAt)
   unfolding nextCur
   turn-law leaf x lc h = record { runs = runs-none z; cursor = tt; down = refl }
   turn-law (fixed own) x lc h = record { runs = runs-none z; cursor = tt; down = refl }

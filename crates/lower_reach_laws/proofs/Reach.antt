@@ -1,4 +1,4 @@
--- Reaching all nodes on memory is the construction's `down`. Assumes nothing.
+-- Reaching all nodes on memory is the construction's `down`.
 use Prim.Native.Nat.{ℕ, suc, _+_, _≤_, _<_}
 use native.Mathlib.Omega.{arith}
 use native.Mathlib.Nat.{add-zero}
@@ -7,46 +7,47 @@ use mathlib.Core.List.{List, [], _∷_, _++_, map}
 use lib.ListN.{length, length-map, length-append}
 use Rattle.wire.specs.Terms.{Affine}
 use Rattle.construct.specs.Builder.{Op}
-use Rattle.construct.specs.Lower.{Flat, cellAfter, Info, Entry}
+use Rattle.construct.specs.Lower.{Flat, cellAfter, Arbitration, Entry}
 use Rattle.construct.specs.Lower as L
 use Rattle.construct.specs.Circuit.{cellEnd, root}
 use Rattle.construct_floats.specs.Floats.{floats}
 use Rattle.builder_table.specs.declared.Builder.{Builder}
 use Rattle.builder_table.specs.Work.{Mem}
 use Rattle.builder_laws.proofs.Builder.{stands-one, stands-zero}
-use Rattle.lower_room.specs.Uses.{downUse, downMore}
-use Rattle.builder_laws.specs.Runs.{Rows}
+use Rattle.lower_room.proofs.Uses.{downUse, downMore}
+use Rattle.builder_laws.proofs.Running.{Rows}
 use Rattle.builder_laws.proofs.Runs.{rows-kept, Ready, runs-none, runs-then, runs-less, runs-wide, ready-after}
 use Rattle.lower_passes.specs.declared.Down.{Down}
 use Rattle.builder_table.specs.Slots.{nextCursorFrom}
 use Rattle.lower_passes.specs.Reach.{Lowered, down, rootIn, reachIn}
-use Rattle.lower_ordered_laws.specs.Passes.{takes, roots, Sound, rowsIn, NodesAt, InfosAt, EntriesAt}
-use Rattle.lower_ordered_laws.proofs.Counts.{rows-most, kids-taken, cell-more, cells-more}
+use Rattle.lower_ordered_laws.proofs.Passes.{takes, roots, Sound, rowsIn, NodesAt, ArbitrationsAt, EntriesAt}
+use Rattle.lower_ordered_laws.proofs.Counts.{rows-most, kids-taken}
+use Rattle.construct.proofs.Arbitrate.{cellEnd-ge, cells-ge}
 use Rattle.lower_ordered_laws.proofs.Kept.{infos-kept, out-kept}
-use Rattle.lower_reach_laws.specs.Downward.{Past, ReachRuns, ReachLaw}
-use Rattle.lower_reach_laws.proofs.Counts.{childs-count, next-count, outs-count, curs-count}
+use Rattle.lower_reach_laws.proofs.Downward.{Past, ReachRuns, ReachLaw}
+use Rattle.lower_reach_laws.proofs.Counts.{children-count, next-count, outs-count, curs-count}
 use Rattle.lower_reach_laws.proofs.Spread.{Entered, entry-law, entries-push}
 use Rattle.lower_reach_laws.proofs.Node.{haltOf, restOf, curOf, kidOf, outOf, nodeUse, nodeMore, NodeRuns, past-told, nodeAt, node-law}
 use Rattle.lower_reach_laws.proofs.Step.{step-law, reach-next}
 
 -- ---- the construction, one node at a time
 
-module _ (n nN i c : ℕ) (x : Info Affine) (xs : List (Info Affine)) (e : Entry Affine) (es : List (Entry Affine)) (os : List (Op Affine)) where
+module _ (n cursorsAt i c : ℕ) (x : Arbitration Affine) (xs : List (Arbitration Affine)) (e : Entry Affine) (es : List (Entry Affine)) (os : List (Op Affine)) where
   -- all that comes after a node
   abbrev after : Flat → L.Down Affine
-  after node = let s = kidOf n nN i c node x e os in L.down floats n nN (suc i) (cellAfter node c) xs (s .items ++ es) (s .ops)
+  after node = let s = kidOf n cursorsAt i c node x e os in L.down floats n cursorsAt (suc i) (cellAfter node c) xs (s .items ++ es) (s .ops)
 
   down-next : {node : Flat} → x .node ≡ node
-      → L.down floats n nN i c (x ∷ xs) (e ∷ es) os
-      ≡ record { outs = outOf n nN i c node x e os ∷ after node .outs; curs = curOf n nN i c node x e os .items ++ after node .curs; ops = after node .ops }
+      → L.down floats n cursorsAt i c (x ∷ xs) (e ∷ es) os
+      ≡ record { outs = outOf n cursorsAt i c node x e os ∷ after node .outs; cursors = curOf n cursorsAt i c node x e os .items ++ after node .cursors; ops = after node .ops }
   unfolding L.down
-  down-next h = λ j. record { outs = outOf n nN i c (h j) x e os ∷ after (h j) .outs; curs = curOf n nN i c (h j) x e os .items ++ after (h j) .curs; ops = after (h j) .ops }
+  down-next h = λ j. record { outs = outOf n cursorsAt i c (h j) x e os ∷ after (h j) .outs; cursors = curOf n cursorsAt i c (h j) x e os .items ++ after (h j) .cursors; ops = after (h j) .ops }
 
   use-next : {node : Flat} → x .node ≡ node
-      → downUse floats n nN i c (x ∷ xs) (e ∷ es) os
-      ≡ nodeUse n nN i c node x e os + (let s = kidOf n nN i c node x e os in downUse floats n nN (suc i) (cellAfter node c) xs (s .items ++ es) (s .ops))
+      → downUse floats n cursorsAt i c (x ∷ xs) (e ∷ es) os
+      ≡ nodeUse n cursorsAt i c node x e os + (let s = kidOf n cursorsAt i c node x e os in downUse floats n cursorsAt (suc i) (cellAfter node c) xs (s .items ++ es) (s .ops))
   unfolding downUse
-  use-next h = λ j. nodeUse n nN i c (h j) x e os + (let s = kidOf n nN i c (h j) x e os in downUse floats n nN (suc i) (cellAfter (h j) c) xs (s .items ++ es) (s .ops))
+  use-next h = λ j. nodeUse n cursorsAt i c (h j) x e os + (let s = kidOf n cursorsAt i c (h j) x e os in downUse floats n cursorsAt (suc i) (cellAfter (h j) c) xs (s .items ++ es) (s .ops))
 
 -- ---- slots
 
@@ -66,31 +67,31 @@ rows-append m b from (x ∷ xs) ys h t =
 
 -- ---- a node, and those that come after it
 
-module _ {n nN i c rows : ℕ} {node : Flat} {x : Info Affine} {e : Entry Affine} {es : List (Entry Affine)} {os : List (Op Affine)} {m : Mem} {b : Builder} {s : Lowered} {need more : ℕ}
+module _ {n cursorsAt i c rows : ℕ} {node : Flat} {x : Arbitration Affine} {e : Entry Affine} {es : List (Entry Affine)} {os : List (Op Affine)} {m : Mem} {b : Builder} {s : Lowered} {need more : ℕ}
     {f : Lowered} {d : L.Down Affine} where
-  join : NodeRuns n nN i c rows node x e es os m b s → ReachRuns (suc i) (cellAfter node c) need more (s .mem) (s .down .builder) f d → i < 128 → c ≤ cellAfter node c → cellAfter node c ≤ 128
-      → ReachRuns i c (nodeUse n nN i c node x e os + need) (nodeMore node + more) m b f
-      (record { outs = outOf n nN i c node x e os ∷ d .outs; curs = curOf n nN i c node x e os .items ++ d .curs; ops = d .ops })
+  join : NodeRuns n cursorsAt i c rows node x e es os m b s → ReachRuns (suc i) (cellAfter node c) need more (s .mem) (s .down .builder) f d → i < 128 → c ≤ cellAfter node c → cellAfter node c ≤ 128
+      → ReachRuns i c (nodeUse n cursorsAt i c node x e os + need) (nodeMore node + more) m b f
+      (record { outs = outOf n cursorsAt i c node x e os ∷ d .outs; cursors = curOf n cursorsAt i c node x e os .items ++ d .cursors; ops = d .ops })
   join a r l more′ lc =
       let g = r .runs .keeps in
-      let items = curOf n nN i c node x e os .items in
-      let count = next-count floats n nN node c (e .reached) (restOf n nN i c node x e os .form) (x .cur) (restOf n nN i c node x e os .ops) in
+      let items = curOf n cursorsAt i c node x e os .items in
+      let count = next-count floats n cursorsAt node c (e .reached) (restOf n cursorsAt i c node x e os .form) (x .cursor) (restOf n cursorsAt i c node x e os .ops) in
       let at : nextCursorFrom + cellAfter node c ≡ nextCursorFrom + c + length items = omega arith in
       record {
         runs = runs-then (runs-less (a .runs) (λ k p. past-deep i c (length es) k p)) (runs-less (r .runs) (λ k p. past-next i c (cellAfter node c) k more′ p));
-        outs = (out-kept g i (outOf n nN i c node x e os) l (omega arith, omega arith, omega arith, omega arith, omega arith, omega arith) (a .out), r .outs);
-        curs =
-            rows-append (f .mem) (f .down .builder) (nextCursorFrom + c) items (d .curs)
+        outs = (out-kept g i (outOf n cursorsAt i c node x e os) l (omega arith, omega arith, omega arith, omega arith, omega arith, omega arith) (a .out), r .outs);
+        cursors =
+            rows-append (f .mem) (f .down .builder) (nextCursorFrom + c) items (d .cursors)
             (rows-kept g (nextCursorFrom + c) items (omega arith) (λ k p q. omega arith) (a .cursor))
-            (subst (λ (j : ℕ). Rows (f .mem) (f .down .builder) j (d .curs)) at (r .curs));
+            (subst (λ (j : ℕ). Rows (f .mem) (f .down .builder) j (d .cursors)) at (r .cursors));
       }
 
 -- ---- all nodes
 
 -- where the pass stands before the i-th node: cells before it are c, and the entries on the stack are es
-record Before (n i c : ℕ) (kinds counts : List ℕ) (ns : List Flat) (xs : List (Info Affine)) (es : List (Entry Affine)) (os : List (Op Affine)) (m : Mem) (v : Down) : Type 0 where
+record Before (n i c : ℕ) (kinds counts : List ℕ) (ns : List Flat) (xs : List (Arbitration Affine)) (es : List (Entry Affine)) (os : List (Op Affine)) (m : Mem) (v : Down) : Type 0 where
   ready : Ready n m (v .builder) os
-  infos : InfosAt m (v .builder) i ns xs
+  arbitrations : ArbitrationsAt m (v .builder) i ns xs
   nodes : NodesAt kinds counts i ns
   sound : Sound ns
   entries : EntriesAt m (v .builder) es
@@ -101,23 +102,23 @@ record Before (n i c : ℕ) (kinds counts : List ℕ) (ns : List Flat) (xs : Lis
   inside : i + length ns ≤ 128
   cells : cellEnd c ns ≤ 128
 
-module _ (n nN : ℕ) (kinds counts : List ℕ) where
+module _ (n cursorsAt : ℕ) (kinds counts : List ℕ) where
   -- before the next node
-  before-next : (i c : ℕ) (node : Flat) (ns : List Flat) (x : Info Affine) (xs : List (Info Affine)) (e : Entry Affine) (es : List (Entry Affine)) (os : List (Op Affine)) (m : Mem) (v : Down) (s : Lowered)
-      → Before n i c kinds counts (node ∷ ns) (x ∷ xs) (e ∷ es) os m v → NodeRuns n nN i c (rowsIn (node ∷ ns)) node x e es os m (v .builder) s
-      → let k = kidOf n nN i c node x e os in
+  before-next : (i c : ℕ) (node : Flat) (ns : List Flat) (x : Arbitration Affine) (xs : List (Arbitration Affine)) (e : Entry Affine) (es : List (Entry Affine)) (os : List (Op Affine)) (m : Mem) (v : Down) (s : Lowered)
+      → Before n i c kinds counts (node ∷ ns) (x ∷ xs) (e ∷ es) os m v → NodeRuns n cursorsAt i c (rowsIn (node ∷ ns)) node x e es os m (v .builder) s
+      → let k = kidOf n cursorsAt i c node x e os in
       Before n (suc i) (cellAfter node c) kinds counts ns xs (k .items ++ es) (k .ops) (s .mem) (s .down)
   unfolding Sound roots rowsIn cellEnd
   before-next i c node ns x xs e es os m v s h a =
-      let k = kidOf n nN i c node x e os in
+      let k = kidOf n cursorsAt i c node x e os in
       let sk = h .stacked in
       let ins = h .inside in
       let tk = h .sound .0 in
       let few = rows-most ns (h .sound .2) in
-      let count : length (k .items) ≡ takes node = childs-count floats n nN node (e .reached) (haltOf n nN i c node x e os .form) (x .kids) (curOf n nN i c node x e os .ops) (h .infos .0 .count) in
+      let count : length (k .items) ≡ takes node = children-count floats n cursorsAt node (e .reached) (haltOf n cursorsAt i c node x e os .form) (x .kids) (curOf n cursorsAt i c node x e os .ops) (h .arbitrations .0 .count) in
       record {
         ready = ready-after (a .runs) (h .ready);
-        infos = infos-kept (a .runs .keeps) (suc i) ns xs (omega arith) (omega arith) (λ j p q. omega arith) (λ j p q. omega arith) (λ j p q. omega arith) (h .infos .1);
+        arbitrations = infos-kept (a .runs .keeps) (suc i) ns xs (omega arith) (omega arith) (λ j p q. omega arith) (λ j p q. omega arith) (λ j p q. omega arith) (h .arbitrations .1);
         nodes = h .nodes .1;
         sound = h .sound .2;
         entries = a .entries;
@@ -130,16 +131,16 @@ module _ (n nN : ℕ) (kinds counts : List ℕ) where
       }
 
   reach-none : (i c : ℕ) (es : List (Entry Affine)) (os : List (Op Affine)) (m : Mem) (v : Down) → Ready n m (v .builder) os
-      → ReachRuns i c (downUse floats n nN i c [] es os) 0 m (v .builder) (reachIn m v kinds counts nN i 0) (L.down floats n nN i c [] es os)
+      → ReachRuns i c (downUse floats n cursorsAt i c [] es os) 0 m (v .builder) (reachIn m v kinds counts cursorsAt i 0) (L.down floats n cursorsAt i c [] es os)
   unfolding L.down downUse reachIn
-  reach-none i c es os m v z = record { runs = runs-none z; outs = tt; curs = tt }
+  reach-none i c es os m v z = record { runs = runs-none z; outs = tt; cursors = tt }
 
-  reach-from : (i c : ℕ) (ns : List Flat) (xs : List (Info Affine)) (es : List (Entry Affine)) (os : List (Op Affine)) (m : Mem) (v : Down) → Before n i c kinds counts ns xs es os m v
-      → ReachRuns i c (downUse floats n nN i c xs es os) (downMore ns) m (v .builder) (reachIn m v kinds counts nN i (length ns)) (L.down floats n nN i c xs es os)
+  reach-from : (i c : ℕ) (ns : List Flat) (xs : List (Arbitration Affine)) (es : List (Entry Affine)) (os : List (Op Affine)) (m : Mem) (v : Down) → Before n i c kinds counts ns xs es os m v
+      → ReachRuns i c (downUse floats n cursorsAt i c xs es os) (downMore ns) m (v .builder) (reachIn m v kinds counts cursorsAt i (length ns)) (L.down floats n cursorsAt i c xs es os)
   unfolding Sound roots rowsIn cellEnd downMore
   reach-from i c [] [] es os m v h = reach-none i c es os m v (h .ready)
-  reach-from i c (node ∷ ns) [] es os m v h = absurd (h .infos)
-  reach-from i c [] (x ∷ xs) es os m v h = absurd (h .infos)
+  reach-from i c (node ∷ ns) [] es os m v h = absurd (h .arbitrations)
+  reach-from i c [] (x ∷ xs) es os m v h = absurd (h .arbitrations)
   reach-from i c (node ∷ ns) (x ∷ xs) [] os m v h = absurd (let e = h .stacked in omega arith)
   reach-from i c (node ∷ ns) (x ∷ xs) (e ∷ es) os m v h =
       let sk = h .stacked in
@@ -147,19 +148,19 @@ module _ (n nN : ℕ) (kinds counts : List ℕ) where
       let tk = h .sound .0 in
       let few = rows-most ns (h .sound .2) in
       let kt = kids-taken node in
-      let cn = cells-more (cellAfter node c) ns in
+      let cn = cellEnd-ge (cellAfter node c) ns in
       let ce = h .cells in
-      let same = h .infos .0 .node in
-      let s = nodeAt m (v .builder) (length es) (rowsIn (node ∷ ns)) c i node nN in
-      let a = node-law (h .ready) nN i c (rowsIn (node ∷ ns)) node x e es (omega arith) (omega arith) (omega arith) (omega arith) (omega arith) (h .infos .0) (h .entries) in
-      let k = kidOf n nN i c node x e os in
+      let same = h .arbitrations .0 .node in
+      let s = nodeAt m (v .builder) (length es) (rowsIn (node ∷ ns)) c i node cursorsAt in
+      let a = node-law (h .ready) cursorsAt i c (rowsIn (node ∷ ns)) node x e es (omega arith) (omega arith) (omega arith) (omega arith) (omega arith) (h .arbitrations .0) (h .entries) in
+      let k = kidOf n cursorsAt i c node x e os in
       let r = reach-from (suc i) (cellAfter node c) ns xs (k .items ++ es) (k .ops) (s .mem) (s .down) (before-next i c node ns x xs e es os m v s h a) in
       rw (
-        down-next n nN i c x xs e es os same,
-        use-next n nN i c x xs e es os same,
-        reach-next m v kinds counts nN i (length ns) (h .nodes .0)
-            (step-law m v i node nN (length es) (rowsIn (node ∷ ns)) c (omega (arith, h .depth)) (h .row) (h .cell) (omega arith) (omega arith) (omega arith)),
-      ) (join a r (omega arith) (cell-more node c) (omega arith))
+        down-next n cursorsAt i c x xs e es os same,
+        use-next n cursorsAt i c x xs e es os same,
+        reach-next m v kinds counts cursorsAt i (length ns) (h .nodes .0)
+            (step-law m v i node cursorsAt (length es) (rowsIn (node ∷ ns)) c (omega (arith, h .depth)) (h .row) (h .cell) (omega arith) (omega arith) (omega arith)),
+      ) (join a r (omega arith) (cells-ge node c) (omega arith))
 
 -- ---- from the root
 
@@ -176,7 +177,7 @@ reach-law m b kinds counts ns infos os w q h at s one l lc =
     reach-from (b .cells) (length ns) kinds counts 0 0 ns infos (root floats ∷ []) os (rootIn m) (down b 1 (rowsIn ns) 0)
     (record {
       ready = ready-after (e .runs) z;
-      infos = kept;
+      arbitrations = kept;
       nodes = at;
       sound = s;
       entries = entries-push (e .entry) [] refl (record { reached = tt; called = tt });
@@ -187,22 +188,22 @@ reach-law m b kinds counts ns infos os w q h at s one l lc =
       inside = omega arith;
       cells = lc;
     }) in
-    record { runs = runs-wide (runs-then (runs-less (e .runs) (λ k p. past-told 0 0 0 1 k (omega arith) p)) (a .runs)) _ _ (omega arith) (omega arith); outs = a .outs; curs = a .curs }
+    record { runs = runs-wide (runs-then (runs-less (e .runs) (λ k p. past-told 0 0 0 1 k (omega arith) p)) (a .runs)) _ _ (omega arith) (omega arith); outs = a .outs; cursors = a .cursors }
 
 -- ---- how many outputs and next cursors
 
 module _ (m : Mem) (b : Builder) where
-  infos-nodes : (i : ℕ) (ns : List Flat) (xs : List (Info Affine)) → InfosAt m b i ns xs → map (λ (x : Info Affine). x .node) xs ≡ ns
+  infos-nodes : (i : ℕ) (ns : List Flat) (xs : List (Arbitration Affine)) → ArbitrationsAt m b i ns xs → map (λ (x : Arbitration Affine). x .node) xs ≡ ns
   infos-nodes i [] [] h = refl
   infos-nodes i (n ∷ ns) (x ∷ xs) h = λ j. h .0 .node j ∷ infos-nodes (suc i) ns xs (h .1) j
 
-  pub reach-outs : (ns : List Flat) (infos : List (Info Affine)) (es : List (Entry Affine)) (os : List (Op Affine)) → InfosAt m b 0 ns infos
+  pub reach-outs : (ns : List Flat) (infos : List (Arbitration Affine)) (es : List (Entry Affine)) (os : List (Op Affine)) → ArbitrationsAt m b 0 ns infos
       → length (L.down floats (b .cells) (length ns) 0 0 infos es os .outs) ≡ length ns
   reach-outs ns infos es os h =
-      outs-count floats (b .cells) (length ns) 0 0 infos es os ∙ sym (length-map infos (λ (x : Info Affine). x .node)) ∙ ap length (infos-nodes 0 ns infos h)
+      outs-count floats (b .cells) (length ns) 0 0 infos es os ∙ sym (length-map infos (λ (x : Arbitration Affine). x .node)) ∙ ap length (infos-nodes 0 ns infos h)
 
-  pub reach-curs : (ns : List Flat) (infos : List (Info Affine)) (es : List (Entry Affine)) (os : List (Op Affine)) → InfosAt m b 0 ns infos
-      → length (L.down floats (b .cells) (length ns) 0 0 infos es os .curs) ≡ cellEnd 0 ns
+  pub reach-curs : (ns : List Flat) (infos : List (Arbitration Affine)) (es : List (Entry Affine)) (os : List (Op Affine)) → ArbitrationsAt m b 0 ns infos
+      → length (L.down floats (b .cells) (length ns) 0 0 infos es os .cursors) ≡ cellEnd 0 ns
   reach-curs ns infos es os h =
       let c = curs-count floats (b .cells) (length ns) 0 0 ns infos es os (infos-nodes 0 ns infos h) in
       omega arith

@@ -1,4 +1,4 @@
--- What a node of a list that is a forest's asks for is there, so that a step of reaching is the node's. Assumes nothing.
+-- What a node of a list that is a forest's asks for is there, so that a step of reaching is the node's.
 use Prim.Native.Nat.{ℕ, suc, _+_, _-_, _≤_, _<_}
 use native.Mathlib.Omega.{arith}
 use native.Mathlib.Numerals.{add-one}
@@ -8,7 +8,7 @@ use mathlib.Core.List.{List}
 use borrow.Author.Tests.{lt-ltb, le-leb}
 use Rattle.construct.specs.Lower.{Flat, leaf, fixed, invert, force, ordered, cellAfter}
 use Rattle.builder_table.specs.Work.{Mem}
-use Rattle.lower_room.specs.Uses.{kidsOf}
+use Rattle.lower_room.proofs.Uses.{kidsOf}
 use Rattle.lower_passes.specs.Arbitrate.{flatAt}
 use Rattle.lower_passes.specs.declared.Down.{Down}
 use Rattle.lower_passes.specs.Reach.{Lowered, ready, stuck, nodeIn, stepIn, reachIn}

@@ -1,4 +1,4 @@
--- A form put into a slot, as a step. Assumes nothing.
+-- A form put into a slot, as a step.
 use Prim.Native.Nat.{ℕ, _<_}
 use mathlib.Core.List.{List}
 use Rattle.wire.specs.declared.Form.{Form}
@@ -8,7 +8,7 @@ use Rattle.builder_table.specs.declared.Builder.{Builder}
 use Rattle.builder_table.specs.Slots.{opsFrom}
 use Rattle.builder_table.specs.Work.{Mem, loaded, saved}
 use Rattle.builder_laws.specs.Table.{Stands}
-use Rattle.builder_laws.specs.Runs.{Runs}
+use Rattle.builder_laws.proofs.Running.{Runs}
 use Rattle.builder_laws.proofs.Runs.{Ready, saved-runs, slot-filled}
 
 pub record Stored (K : ℕ → Type 0) (m : Mem) (b : Builder) (j : ℕ) (f : Form) (x : Affine) (os : List (Op Affine)) : Type 0 where

@@ -1,4 +1,4 @@
--- What the code leaves, as chains of what its callees leave. Assumes nothing.
+-- What the code leaves, as chains of what its callees leave.
 use Prim.Native.Nat.{ℕ, _+_}
 use mathlib.Core.Path.{_≡_}
 use mathlib.Core.List.{List}

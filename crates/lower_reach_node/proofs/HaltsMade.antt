@@ -1,4 +1,4 @@
--- What each function's code leaves, as a chain of what its callees leave. Assumes nothing.
+-- What each function's code leaves, as a chain of what its callees leave.
 use Prim.Native.Nat.{ℕ, _+_}
 use mathlib.Core.Path.{_≡_}
 use mathlib.Core.List.{List}

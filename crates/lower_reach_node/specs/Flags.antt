@@ -1,4 +1,4 @@
--- The second half of a node's next running flag: what an untouched node keeps is added. Definitions only.
+-- The second half of a node's next running flag: what an untouched node keeps is added. Inner: the shape of the code; nobody need believe it.
 use Prim.Native.Nat.{ℕ, _+_}
 use Rattle.wire.specs.declared.Form.{Form}
 use Rattle.builder_table.specs.declared.Builder.{Builder}

@@ -50,9 +50,9 @@ pub fn next_cursor(
     ensures { λ r. ⌜ stood (now (wires .exit)) (now (coefs .exit)) (now (nums .exit)) (now (biases .exit)) r
         ≡ cursorIn (mem (now (wires .entry)) (now (coefs .entry)) (now (nums .entry)) (now (biases .entry))) at i cell nodes ⌝ }
 {
-    let cur = builder_table::load(nums, biases, Table::ARBITRATED + i);
+    let cursor = builder_table::load(nums, biases, Table::ARBITRATED + i);
     let reached = builder_table::load(nums, biases, Table::REACHED + i);
-    let a = builder_table::push(wires, coefs, nums, biases, at, cur, reached);
+    let a = builder_table::push(wires, coefs, nums, biases, at, cursor, reached);
     let moved = a.form;
     let u = a.builder;
     let untouched = builder_table::load(nums, biases, Table::UNTOUCHED + i);

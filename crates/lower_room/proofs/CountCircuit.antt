@@ -7,7 +7,7 @@ use mathlib.Core.Path.{_≡_, refl}
 use lib.ListN.{length, length-reverse}
 use Rattle.construct.specs.Circuit.{build, construct, flats, opCount, opForms, outputForms, outputsOf, termCount, termsIn}
 use Rattle.construct.specs.Lower.{Flat}
-use Rattle.construct.specs.Pairs.{Form, NOut, Op, pairs}
+use Rattle.construct.specs.Pairs.{Form, NodeReach, Op, pairs}
 use Rattle.lower_room.proofs.Ops.{op-bound, op-room}
 use Rattle.lower_room.proofs.Room.{arena-bound}
 use Rattle.lower_room.proofs.Terms.{opTerms}
@@ -15,7 +15,7 @@ use Rattle.lower_room.proofs.Total.{circuitTerms, formTerms, outTerms, 
 use Rattle.construct_means.proofs.Sizes.{sizes}
 use Rattle.construct_means.specs.Means.{circuitOf}
 use Rattle.tree.specs.Forest.{Forest, counts, preorder, size}
-use Rattle.lower_room.specs.Uses.{arenaUse}
+use Rattle.lower_room.proofs.Uses.{arenaUse}
 use Rattle.walk.specs.Walk.{cellsIn}
 
 -- the circuit's terms are those that the passes leave
@@ -29,7 +29,7 @@ unfolding termsIn
 terms-append [] gs = omega arith
 terms-append (f ∷ fs) gs = omega (arith, terms-append fs gs)
 
-outputs-terms : (xs : List NOut) (fs : List Form) → termsIn pairs (outputForms (outputsOf xs fs)) ≤ outTerms xs + formTerms fs
+outputs-terms : (xs : List NodeReach) (fs : List Form) → termsIn pairs (outputForms (outputsOf xs fs)) ≤ outTerms xs + formTerms fs
 unfolding termsIn outputForms outTerms formTerms
 outputs-terms [] fs = omega arith
 outputs-terms (x ∷ xs) [] = omega arith
@@ -47,11 +47,11 @@ all-terms ns =
     let xs = outputForms (outputsOf (b .pass .outs) (b .running .items)) in
     omega (
       arith,
-      terms-append (opForms (reverse (b .running .ops))) (xs ++ b .pass .curs),
-      terms-append xs (b .pass .curs),
+      terms-append (opForms (reverse (b .running .ops))) (xs ++ b .pass .cursors),
+      terms-append xs (b .pass .cursors),
       ops-onto (b .running .ops) [],
       outputs-terms (b .pass .outs) (b .running .items),
-      forms-terms (b .pass .curs),
+      forms-terms (b .pass .cursors),
     )
 
 -- THE LAWS, for the circuit of a tree of N nodes and C cursors

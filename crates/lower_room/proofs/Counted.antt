@@ -1,4 +1,4 @@
--- The circuit in floats has as many ops and terms as that with whole coefficients, so that the bounds on these hold of it. Assumes nothing.
+-- The circuit in floats has as many ops and terms as that with whole coefficients, so that the bounds on these hold of it.
 use Prim.Native.Nat.{ℕ, _+_, _*_, _≤_}
 use native.Mathlib.Nat.{mul-le-mul-left}
 use native.Mathlib.Omega.{arith}
@@ -11,10 +11,10 @@ use Rattle.construct.specs.Lower.{Flat}
 use Rattle.construct.specs.Pairs.{Form, Op, pairs}
 use Rattle.lower_room.proofs.CountCircuit.{ops-slots, terms-most}
 use Rattle.construct_faithful.proofs.Same.{faithful}
-use Rattle.construct_faithful.specs.Float.{float}
+use Rattle.construct_faithful.proofs.Float.{float}
 use Rattle.construct_floats.specs.Floats.{floats}
 use Rattle.construct_instances.proofs.Circuit.{same-circuit}
-use Rattle.construct_instances.specs.Respects.{Respects, ofCircuit, ofOp, ofOutput}
+use Rattle.construct_instances.proofs.Respects.{Respects, ofCircuit, ofOp, ofOutput}
 use Rattle.construct_means.proofs.Sizes.{sizes}
 use Rattle.tree.specs.Forest.{Forest, counts, preorder, size}
 
@@ -27,7 +27,7 @@ module _ {F : Type 0} (A : Forms F) (of : Form → F) (same : Respects A of) whe
   outputs-are : (xs : List (Output Form)) → outputForms (map (ofOutput of) xs) ≡ map of (outputForms xs)
   unfolding outputForms
   outputs-are [] = refl
-  outputs-are (x ∷ xs) = ap (λ (l : List F). of (x .status .s) ∷ of (x .status .f) ∷ of (x .status .r) ∷ of (x .reached) ∷ of (x .halted) ∷ of (x .running) ∷ l) (outputs-are xs)
+  outputs-are (x ∷ xs) = ap (λ (l : List F). of (x .status .success) ∷ of (x .status .failure) ∷ of (x .status .running) ∷ of (x .reached) ∷ of (x .halted) ∷ of (x .running) ∷ l) (outputs-are xs)
 
   forms-are : (c : Circuit Form) → formsOf (ofCircuit of c) ≡ map of (formsOf c)
   forms-are c =

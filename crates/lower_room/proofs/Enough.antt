@@ -1,4 +1,4 @@
--- In floats building takes as much room as with whole coefficients: for a tree of at most 128 nodes 2^18 terms are enough. Assumes nothing.
+-- In floats building takes as much room as with whole coefficients: for a tree of at most 128 nodes 2^18 terms are enough.
 use Prim.Native.Nat.{ℕ, _≤_}
 use native.Mathlib.Omega.{arith}
 use mathlib.Core.List.{List}
@@ -9,12 +9,12 @@ use Rattle.construct.specs.Lower.{Flat}
 use Rattle.construct.specs.Pairs.{pairs}
 use Rattle.lower_room.proofs.CountCircuit.{arena-room}
 use Rattle.construct_faithful.proofs.Same.{faithful}
-use Rattle.construct_faithful.specs.Float.{float}
+use Rattle.construct_faithful.proofs.Float.{float}
 use Rattle.construct_floats.specs.Floats.{floats}
 use Rattle.construct_means.proofs.Sizes.{sizes}
 use Rattle.lower_room.proofs.RoomCircuit.{same-room}
 use Rattle.tree.specs.Forest.{Forest, counts, preorder, size}
-use Rattle.lower_room.specs.Uses.{arenaUse}
+use Rattle.lower_room.proofs.Uses.{arenaUse}
 
 pub use-same : (ns : List Flat) → length ns ≤ 128 → arenaUse floats ns ≡ arenaUse pairs ns
 use-same ns few = same-room floats float faithful ns few

@@ -1,4 +1,5 @@
 pub mod Arbitration
+pub mod Cards
 pub mod CountCircuit
 pub mod Counted
 pub mod Enough
@@ -12,3 +13,4 @@ pub mod Sized
 pub mod Slots
 pub mod Terms
 pub mod Total
+pub mod Uses

@@ -1,4 +1,4 @@
--- Forms whose wires rise strictly. A sum lacks at most as many terms of one part as the other part has. Assumes nothing.
+-- Forms whose wires rise strictly. A sum lacks at most as many terms of one part as the other part has.
 use Prim.Native.Nat.{Ordering, Ordering·eq, Ordering·gt, Ordering·lt, _+_, _<_, _≤_, compare, suc, ℕ}
 use native.Mathlib.Omega.{arith}
 use mathlib.Core.Bool.{Bool, _||_, false, true}
@@ -37,8 +37,8 @@ minus-rises f g h k =
 pub not-rises : (f : Form) → Rises f → Rises (not′ pairs f)
 not-rises f h = (h .0, not-reads (h .0) f (h .1))
 
-module _ (n0 : ℕ) where
-  or-rises-at : (t u : Known) (f g : Form) (os : List Op) → known f ≡ t → known g ≡ u → Rises f → Rises g → Rises (orAt pairs n0 t u f g os .form)
+module _ (opsAt : ℕ) where
+  or-rises-at : (t u : Known) (f g : Form) (os : List Op) → known f ≡ t → known g ≡ u → Rises f → Rises g → Rises (orAt pairs opsAt t u f g os .form)
   unfolding orAt and andAt push
   or-rises-at Yes u f g os i j h k = constant-rises 1
   or-rises-at No Yes f g os i j h k = constant-rises 1
@@ -46,19 +46,19 @@ module _ (n0 : ℕ) where
   or-rises-at No Open f g os i j h k = k
   or-rises-at Open Yes f g os i j h k = constant-rises 1
   or-rises-at Open No f g os i j h k = h
-  or-rises-at Open Open f g os i j h k = rw (i, j) (minus-rises (plus f g) (wire′ (n0 + length os)) (plus-rises f g h k) (wire-rises (n0 + length os)))
+  or-rises-at Open Open f g os i j h k = rw (i, j) (minus-rises (plus f g) (wire′ (opsAt + length os)) (plus-rises f g h k) (wire-rises (opsAt + length os)))
 
-  pub or-rises : (f g : Form) (os : List Op) → Rises f → Rises g → Rises (or pairs n0 f g os .form)
+  pub or-rises : (f g : Form) (os : List Op) → Rises f → Rises g → Rises (or pairs opsAt f g os .form)
   unfolding or
   or-rises f g os h k = or-rises-at (known f) (known g) f g os refl refl h k
 
-  atLeast-rises-at : (t : Known) (c : Form) (k : ℕ) (os : List Op) → Rises (atLeastAt pairs n0 t c k os .form)
+  atLeast-rises-at : (t : Known) (c : Form) (k : ℕ) (os : List Op) → Rises (atLeastAt pairs opsAt t c k os .form)
   unfolding atLeastAt step relu push
   atLeast-rises-at No c k os = constant-rises (bit (leb (c .bn + k) (c .bp)))
   atLeast-rises-at Yes c k os = constant-rises (bit (leb (c .bn + k) (c .bp)))
-  atLeast-rises-at Open c k os = minus-rises (wire′ (n0 + length os)) (wire′ (n0 + suc (length os))) (wire-rises (n0 + length os)) (wire-rises (n0 + suc (length os)))
+  atLeast-rises-at Open c k os = minus-rises (wire′ (opsAt + length os)) (wire′ (opsAt + suc (length os))) (wire-rises (opsAt + length os)) (wire-rises (opsAt + suc (length os)))
 
-  pub atLeast-rises : (c : Form) (k : ℕ) (os : List Op) → Rises (atLeast pairs n0 c k os .form)
+  pub atLeast-rises : (c : Form) (k : ℕ) (os : List Op) → Rises (atLeast pairs opsAt c k os .form)
   unfolding atLeast
   atLeast-rises c k os = atLeast-rises-at (known c) c k os
 

@@ -1,4 +1,4 @@
--- Building asks for at most 2,163 op slots. Assumes nothing.
+-- Building asks for at most 2,163 op slots.
 use Prim.Native.Nat.{_*_, _+_, _≤_, suc, ℕ}
 use native.Mathlib.Omega.{arith}
 use mathlib.Core.List.{List, [], _++_, _∷_}
@@ -8,7 +8,7 @@ use Rattle.construct.specs.Lower.{Flat, flatOf}
 use Rattle.construct_means.proofs.Same.{cells-is, flats-are, nodesOf}
 use Rattle.construct_means.proofs.Sizes.{sizes}
 use Rattle.tree.specs.Forest.{Forest, counts, node, none, preorder, size, width}
-use Rattle.lower_room.specs.Uses.{downMore, kidsOf, opsUse, upMore}
+use Rattle.lower_room.proofs.Uses.{downMore, kidsOf, opsUse, upMore}
 use Rattle.walk.specs.Kind.{Composite, Constant, Force, Inverter, Kind, Leaf, kindOf}
 use Rattle.walk.specs.Walk.{cellsIn}
 

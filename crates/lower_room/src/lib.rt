@@ -1,1 +1,1 @@
-// Definitions only: how much room building takes.
+// Definitions and laws alone: how many ops, terms and how much work room a tree takes at most.

@@ -1,4 +1,4 @@
--- A compilation told to C. Assumes nothing.
+-- A compilation told to C.
 use mathlib.Core.Path.{_≡_, ap, _∙_}
 use mathlib.Core.List.{List}
 use Prim.Native.Nat.{ℕ}

@@ -1,6 +1,6 @@
 -- What the lists of a plan are: for a tree the report order is its post-order (`report-tree`); whatever the lists, it holds each node once
 -- (`report-once`, `report-length`), and the leaf and cursor lists strictly rise below the number of nodes (`places-rise`, `places-few`).
--- Assumes nothing.
+--
 use mathlib.Core.Path.{_≡_, refl, sym, _∙_, ap}
 use mathlib.Core.Bool.{Bool, true, false}
 use mathlib.Core.List.{List, [], _∷_, _++_, map, append-assoc, append-nil}

@@ -1,5 +1,5 @@
 -- The loop that lists the nodes of two kinds: what holds at its head, and that each way through a turn keeps it.
--- Assumes nothing.
+--
 use mathlib.Core.Path.{_≡_, refl, _∙_, ap}
 use mathlib.Core.Bool.{Bool, true, false}
 use mathlib.Core.List.{List, [], _∷_}

@@ -1,5 +1,5 @@
 -- The loop that lists the nodes in report order: what holds at its head, and that each way through a turn keeps it.
--- Assumes nothing.
+--
 use mathlib.Core.Path.{_≡_, refl, sym, _∙_, ap}
 use mathlib.Core.Bool.{Bool, true, false, _||_}
 use mathlib.Core.List.{List, [], _∷_, _++_, map}

@@ -1,4 +1,4 @@
-// The lists of a tree's plan, a port of plan.rs: which node each leaf slot and each cursor cell belongs to, and the order of reports.
+// plan.rs: which node each leaf slot and each cursor cell belongs to, the order of reports, and where each input cell lies.
 mod cells;
 mod lists;
 

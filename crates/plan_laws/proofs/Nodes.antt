@@ -1,4 +1,4 @@
--- A tree within the limits has nodes of the kinds that are lowered: what that says of their children, and of the leaf and cursor lists. Assumes nothing.
+-- A tree within the limits has nodes of the kinds that are lowered: what that says of their children, and of the leaf and cursor lists.
 use mathlib.Core.Path.{_≡_, refl, _∙_, ap, subst}
 use mathlib.Core.Bool.{Bool, true, false, cond}
 use mathlib.Core.List.{List, [], _∷_, _++_}
@@ -6,7 +6,7 @@ use Prim.Native.Nat.{ℕ, zero, suc, _+_, _≤_}
 use native.Mathlib.Omega.{arith}
 use borrow.Author.Tests.{le-ltb}
 use lib.Dec.{eqb, ltb}
-use lib.ListN.{length, length-append}
+use lib.ListN.{length}
 use lib.Seq.{take-all}
 use Rattle.tree_kinds.specs.declared.Family.{Family}
 use Rattle.tree_kinds.specs.declared.Family.the-variants.{Never, Unknown}

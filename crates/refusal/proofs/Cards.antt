@@ -1,5 +1,5 @@
 -- Some refusals' lines, by computation: rows of one table under one statement.
--- Assumes nothing.
+--
 use mathlib.Core.Path.{_≡_, refl}
 use mathlib.Core.List.{List, [], _∷_}
 use Prim.Native.String.{String}

@@ -1,5 +1,5 @@
 -- The words of a cause lie within their bytes, and are its sentence.
--- Assumes nothing.
+--
 use mathlib.Core.Path.{_≡_, refl}
 use mathlib.Core.Bool.{true}
 use Prim.Native.Nat.{_≤_}

@@ -1,5 +1,5 @@
 -- A refusal as a line of text: `refused 4 at 0: Sleep is never lowered`.
-use Prim.Native.Nat.{ℕ, suc, _-_}
+use Prim.Native.Nat.{ℕ, _-_}
 use Prim.Native.String.{String}
 use mathlib.Core.List.{List, _++_}
 use lib.ListN.{length, take, replicate}

@@ -1,11 +1,6 @@
--- status.rs: a node's status as three bits, of which at most one is set. Definitions only.
-use mathlib.Core.Path.{_≡_}
-use mathlib.Core.List.{List}
-use Prim.Native.Nat.{ℕ}
-use lib.Ieee.{Float}
-use mathlib.Core.Bool.{Bool, true, false}
+-- status.rs: a node's status as three bits, of which at most one is set. Inner: the shape of the code; nobody need believe it.
+use mathlib.Core.Bool.{false}
 use Rattle.wire.specs.declared.Form.{Form}
-use Rattle.builder.specs.declared.Bit.{Bit}
 use Rattle.builder.specs.Bits.{bitForm}
 use Rattle.builder_table.specs.declared.Builder.{Builder}
 use Rattle.builder_table.specs.Work.{Mem, Ended}

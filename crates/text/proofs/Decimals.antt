@@ -1,5 +1,5 @@
 -- The fewest decimal digits that hold a number are its decimal digits.
--- Assumes nothing.
+--
 use mathlib.Core.Path.{_≡_, refl, sym}
 use mathlib.Core.Bool.{Bool, true, false}
 use lib.Dec.{ltb}

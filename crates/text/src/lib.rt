@@ -1,8 +1,7 @@
 // Text in a lent buffer: a part, or a number, put after what stands there, and a whole line. Inner: the first two ask for the room they need.
 ghost use mathlib.Core.Path.{_≡_};
 ghost use Prim.Native.Nat.{_+_, _≤_};
-ghost use mathlib.Core.List.{_++_};
-ghost use lib.ListN.{length, take};
+ghost use lib.ListN.{length};
 ghost use Rattle.text.specs.Text.{decimal, placed, Appended};
 
 // Puts a line at the front of a buffer and answers the line's length. A buffer that is shorter than that stays as it was, and so do the bytes past
@@ -19,7 +18,7 @@ pub fn put_line(buffer: &mut [u8], line: &[u8]) -> usize
 // A number in decimal, at a position; the answer is the position after it.
 pub fn append_decimal(line: &mut [u8], at: usize, number: u64) -> usize
     requires { ⌜ at + 20 ≤ length (now line) ⌝ }
-    ensures { λ r. ⌜ (take r (now (line .exit)) ≡ take at (now (line .entry)) ++ decimal number) × (r ≤ at + 20) ⌝ }
+    ensures { λ r. ⌜ Appended (now (line .entry)) at (decimal number) (now (line .exit)) r × (r ≤ at + 20) ⌝ }
 {
     let mut digits = [0u8; 20];
     let count = io::decimal(number, &mut digits);

@@ -1,4 +1,4 @@
--- What a gate that passes tells. Assumes nothing.
+-- What a gate that passes tells.
 use mathlib.Core.Path.{_≡_, refl}
 use mathlib.Core.Bool.{_&&_}
 use Prim.Native.Nat.{ℕ, _+_, _≤_}
@@ -6,7 +6,8 @@ use borrow.Author.Tests.{eqb-true, leb-true}
 use lib.Dec.{eqb, leb}
 use Rattle.lists.proofs.Tests.{both-left, both-right}
 use Rattle.tick_check.specs.Check.{Stored, circuitOk}
-use Rattle.tick_check.proofs.Checked.{Checked, checked}
+use Rattle.tick_check.proofs.Checked.{checked}
+use Rattle.tick_check.specs.Checked.{Checked}
 use Rattle.tick_lane.specs.declared.Ticked.the-variants as is
 use Rattle.tick_lane.specs.Lane.{unless}
 use Rattle.tick_lane.proofs.LaneLaws.{unless-say}

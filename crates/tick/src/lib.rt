@@ -2,7 +2,6 @@
 use tick_lane::Ticked;
 use wire::Counts;
 ghost use mathlib.Core.Path.{_≡_};
-ghost use lib.ListN.{length};
 ghost use Rattle.tick_check.specs.Check.{stored};
 ghost use Rattle.tick_lane.specs.Lane.{lent, outcome};
 ghost use Rattle.tick.specs.Tick.{shapesOf, tickOf};

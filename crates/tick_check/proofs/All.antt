@@ -1,4 +1,4 @@
--- Conjunctions of tests: a loop with no branch, two tests at once, and when two are the same. Assumes nothing.
+-- Conjunctions of tests: a loop with no branch, two tests at once, and when two are the same.
 use mathlib.Core.Path.{_≡_, refl, sym, ap, _∙_}
 use mathlib.Core.Bool.{Bool, true, false, _&&_}
 use Prim.Native.Nat.{ℕ, zero, suc, _+_, _≤_, _<_}

@@ -1,4 +1,4 @@
--- What a circuit that passes the check tells whoever reads it without a test. Assumes nothing.
+-- What a circuit that passes the check tells whoever reads it without a test.
 use mathlib.Core.Path.{_≡_, refl, sym, _∙_}
 use mathlib.Core.Bool.{Bool, true, false, _&&_, _||_}
 use Prim.Native.Nat.{ℕ, _+_, _-_, _≤_, _<_}
@@ -10,18 +10,13 @@ use Rattle.lists.specs.All.{all}
 use Rattle.wire.specs.declared.Form.{Form}
 use Rattle.wire.specs.Storage.{leavesFrom, kindAt, leftForm, gateForm, outputForm, outputCount}
 use Rattle.lists.proofs.Tests.{both-left, both-right, all-at}
-use Rattle.wire.proofs.Stored.{Held, held}
+use Rattle.wire.proofs.Stored.{held}
+use Rattle.wire.specs.Held.{Held}
 use Rattle.wire_pool.specs.Values.{Readable, OpReadable}
+use Rattle.tick_check.specs.Checked.{Checked}
 use Rattle.tick_check.specs.Check.{Stored, countsLent, kindKnown, inside, readsBelow, wiresRise, biasSmall, risesBelow, pairs, circuitOk}
 use Rattle.tick_check.specs.Parts.{sizesOk, formOk, opOk, outOk, coefsOk, listsOk, contentsOk}
-use Rattle.tick_check.proofs.Whole.{Sizes, sizes-say, circuit-is}
-
-pub record Checked (s : Stored) : Type 0 where
-  pub sizes : Sizes (s .counts)
-  pub held : Held (s .counts) (length (s .nums)) (length (s .biases)) (length (s .wires)) (length (s .coefs))
-  pub ops : (i : ℕ) → i < s .counts .ops → OpReadable (s .nums) (s .biases) (s .wires) (s .coefs) (s .counts .cells + i) i
-  pub outs : (k : ℕ) → k < outputCount (s .counts) → Readable (s .wires) (s .coefs) (s .counts .cells + s .counts .ops) (outputForm (s .nums) (s .biases) k)
-  pub leaves : (i : ℕ) → i < s .counts .leaves → getD (s .nums) (leavesFrom + i) 0 < s .counts .nodes
+use Rattle.tick_check.proofs.Whole.{sizes-say, circuit-is}
 
 module _ (s : Stored) (lent : Held (s .counts) (length (s .nums)) (length (s .biases)) (length (s .wires)) (length (s .coefs))) where
   readable : (limit : ℕ) (f : Form) → formOk (s .wires) (s .counts .terms) limit f ≡ true → Readable (s .wires) (s .coefs) limit f

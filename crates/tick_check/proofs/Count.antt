@@ -1,4 +1,4 @@
--- Counting how often each number below n stands in a list, those out of range apart. Assumes nothing.
+-- Counting how often each number below n stands in a list, those out of range apart.
 use mathlib.Core.Path.{_≡_, refl, sym, ap, _∙_}
 use mathlib.Core.List.{List}
 use mathlib.Core.Bool.{Bool, true, false, cond}

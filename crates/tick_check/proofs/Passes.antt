@@ -1,4 +1,4 @@
--- The passes of the check together decide what the check form by form does. Assumes nothing.
+-- The passes of the check together decide what the check form by form does.
 use mathlib.Core.Path.{_≡_, refl, sym, ap, _∙_}
 use mathlib.Core.List.{List}
 use mathlib.Core.Bool.{Bool, true, false, _&&_, _||_}

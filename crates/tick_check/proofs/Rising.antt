@@ -1,4 +1,4 @@
--- Entries that rise strictly are all below a limit where the last is. Assumes nothing.
+-- Entries that rise strictly are all below a limit where the last is.
 use mathlib.Core.Path.{_≡_, sym, ap, _∙_, subst}
 use mathlib.Core.List.{List}
 use mathlib.Core.Logic.{⊎-elim}

@@ -1,4 +1,4 @@
--- The check form by form decides document 01's list; and what the counts of a circuit that passes tell. Assumes nothing.
+-- The check form by form decides document 01's list; and what the counts of a circuit that passes tell.
 use mathlib.Core.Path.{_≡_, refl, sym, ap, _∙_}
 use mathlib.Core.List.{List}
 use mathlib.Core.Bool.{Bool, true, false, not, _&&_}
@@ -15,18 +15,12 @@ use Rattle.wire.specs.declared.Form.{Form}
 use Rattle.wire.specs.declared.Counts.{Counts}
 use Rattle.wire.specs.Storage.{leavesFrom, cursorsFrom, reportFrom, leftForm, gateForm, outputCount}
 use Rattle.lists.proofs.Tests.{both, both-left, both-right}
+use Rattle.tick_check.specs.Checked.{Sizes}
 use Rattle.tick_check.specs.Check.{Stored, someNode, sizesFit, cellsFit, countsLent, kindKnown, kindsKnown, opForms, outForm, eachForm, inside, readsBelow, wiresRise, coefsNonzero, coefsSmall, biasSmall, risesBelow, eachOnce, circuitOk}
 use Rattle.tick_check.specs.Parts.{sizesOk, formOk, opOk, outOk, coefsOk, listsOk, contentsOk}
 use Rattle.tick_check.proofs.All.{same, mix, all-and}
 
 -- ---- counts
-
-pub record Sizes (n : Counts) : Type 0 where
-  pub some : 0 < n .nodes
-  pub few : n .nodes ≤ 128
-  pub cursors : n .cursors ≤ n .nodes
-  pub leaves : n .leaves ≤ n .nodes
-  pub cells : n .cells ≡ n .nodes + n .cursors + 3 * n .leaves
 
 module _ (n : Counts) where
   pub sizes-1 : n .nodes ≡ 0 → false ≡ sizesOk n

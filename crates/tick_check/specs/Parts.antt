@@ -1,4 +1,5 @@
--- The check form by form, and what each of its passes decides. That both are Check's list is proved in proofs/Whole.antt and Passes.antt. Definitions only.
+-- The check form by form, and what each of its passes decides. That both are Check's list is proved in proofs/Whole.antt and Passes.antt.
+-- Inner: the shape of the code; nobody need believe it.
 use Prim.Native.Nat.{ℕ, _+_, _*_}
 use mathlib.Core.List.{List}
 use mathlib.Core.Bool.{Bool, _&&_, _||_, cond}

@@ -7,7 +7,7 @@ ghost use mathlib.Core.Path.{_≡_};
 ghost use Prim.Native.Nat.{_+_, _*_, _≤_, _<_};
 ghost use lib.ListN.{length};
 ghost use Rattle.wire.specs.Storage.{opsFrom, opBiasesFrom, outputCount};
-ghost use Rattle.wire.proofs.Stored.{Held};
+ghost use Rattle.wire.specs.Held.{Held};
 ghost use Rattle.tick_check.specs.Check.{stored, pairs, risesBelow, eachOnce, circuitOk};
 ghost use Rattle.tick_check.specs.Parts.{sizesOk, coefsOk, biasesOk, floatsOk, rangeOk, opRanges, opsRange, outsRange, listsOk, contentsOk, slotOf};
 

@@ -1,4 +1,4 @@
--- The first entry above a number, as a loop finds it. Assumes nothing.
+-- The first entry above a number, as a loop finds it.
 use mathlib.Core.Path.{_≡_, ap, _∙_}
 use mathlib.Core.List.{List}
 use Prim.Native.Nat.{ℕ, suc, _+_, _≤_, _<_}

@@ -1,4 +1,4 @@
--- An edge, from what its calls answer. Assumes nothing.
+-- An edge, from what its calls answer.
 use mathlib.Core.Path.{_≡_, ap, _∙_}
 use mathlib.Core.List.{List}
 use mathlib.Core.Bool.{Bool}

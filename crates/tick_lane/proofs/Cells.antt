@@ -1,4 +1,4 @@
--- The loop that writes the leaves' cells; the three writes of cells in turn, and the ops after them. Assumes nothing.
+-- The loop that writes the leaves' cells; the three writes of cells in turn, and the ops after them.
 use mathlib.Core.Path.{_≡_, refl, sym, ap, _∙_}
 use mathlib.Core.List.{List}
 use Prim.Native.Nat.{ℕ, zero, suc, _+_, _*_, _≤_}

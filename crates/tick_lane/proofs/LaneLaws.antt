@@ -1,4 +1,4 @@
--- The ways out of a tick of one part. Assumes nothing.
+-- The ways out of a tick of one part.
 use mathlib.Core.Path.{_≡_, refl, sym, ap, _∙_}
 use mathlib.Core.List.{List, [], _∷_}
 use mathlib.Core.Bool.{Bool, true, false, cond, true≢false}

@@ -2,13 +2,12 @@
 use wire::Counts;
 use wire::Nums;
 ghost use mathlib.Core.Path.{_≡_};
-ghost use Prim.Native.Nat.{ℕ, _+_, _*_, _≤_, _<_};
+ghost use Prim.Native.Nat.{_+_, _*_, _≤_};
 ghost use lib.ListN.{length};
-ghost use Rattle.wire.specs.Storage.{opAt, outputCount};
-ghost use Rattle.wire_pool.specs.Values.{tableAfter};
+ghost use Rattle.wire.specs.Storage.{outputCount};
 ghost use Rattle.lists.specs.Fill.{fillAt};
 ghost use Rattle.tick_check.specs.Check.{stored};
-ghost use Rattle.tick_check.proofs.Checked.{Checked};
+ghost use Rattle.tick_check.specs.Checked.{Checked};
 ghost use Rattle.tick_lane.specs.Evaluate.{bit, flagCell, cursorCell, leavesAt, cellsOf, tableOf, outValue};
 
 fn bit(b: bool) -> f32

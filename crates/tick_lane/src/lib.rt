@@ -16,7 +16,7 @@ ghost use Rattle.wire.specs.Storage.{leavesFrom, outputCount};
 ghost use Rattle.lists.specs.Fill.{prefix};
 ghost use Rattle.tick_lane.specs.Answers.{statusAt, haltAt, flagAt, edgeAt, cursorAt};
 ghost use Rattle.tick_check.specs.Check.{stored};
-ghost use Rattle.tick_check.proofs.Checked.{Checked};
+ghost use Rattle.tick_check.specs.Checked.{Checked};
 ghost use Rattle.tick_lane.specs.Evaluate.{outsOf};
 ghost use Rattle.tick_lane.specs.Lane.{firstAbove, inputsOf, lent, outcome, settleOf, laneOf};
 

@@ -1,4 +1,4 @@
--- The floats of bits and counts: what validation and the answers make of them, and where they stand among the values of the output forms. Assumes nothing.
+-- The floats of bits and counts: what validation and the answers make of them, and where they stand among the values of the output forms.
 use mathlib.Core.Path.{_≡_, refl, _∙_, ap}
 use mathlib.Core.Bool.{Bool, true, false, not, cond}
 use mathlib.Core.List.{List, [], _∷_, _++_}
@@ -23,7 +23,7 @@ use Rattle.construct_floats.specs.Floats.{number}
 use Rattle.construct_faithful.proofs.Values.{numbers}
 use Rattle.lists.proofs.Sets.{map-at}
 use Rattle.compile_laws.proofs.Passes.{is-true}
-use Rattle.tick_laws.specs.Values.{bitsOf}
+use Rattle.tick_laws.proofs.Values.{bitsOf}
 
 -- ---- one float
 

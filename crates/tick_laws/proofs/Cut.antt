@@ -1,4 +1,4 @@
--- A form cut after some terms: what holds of the form's terms holds of those that are left. Assumes nothing.
+-- A form cut after some terms: what holds of the form's terms holds of those that are left.
 use mathlib.Core.Path.{_≡_, refl, ap}
 use mathlib.Core.Bool.{Bool, true, false}
 use mathlib.Core.List.{List, [], _∷_}
@@ -13,7 +13,7 @@ use Rattle.construct.specs.Pairs.{Form, Term}
 use Rattle.construct.specs.Scope.{Within, Reads}
 use Rattle.construct.specs.Value.{sumP, sumN}
 use Rattle.construct_sizes.specs.Exact.{Sums, Products, Coefs, Small}
-use Rattle.construct_faithful.specs.Float.{floatTerm, floatTerms}
+use Rattle.construct_faithful.proofs.Float.{floatTerm, floatTerms}
 
 abbrev pub cut : ℕ → Form → Form
 cut i g = record { bp = g .bp; bn = g .bn; terms = take i (g .terms) }

@@ -1,4 +1,4 @@
--- The walk's edges, leaf after leaf, are those of the nodes of the leaf list. Assumes nothing.
+-- The walk's edges, leaf after leaf, are those of the nodes of the leaf list.
 use mathlib.Core.Path.{_≡_, refl, sym, _∙_, ap}
 use mathlib.Core.Bool.{Bool, true, false, cond, _&&_, true≢false}
 use mathlib.Core.List.{List, [], _∷_, _++_, map}

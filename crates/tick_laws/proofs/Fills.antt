@@ -1,4 +1,4 @@
--- The cells that a tick writes are the floats of the tree's input cells. Assumes nothing.
+-- The cells that a tick writes are the floats of the tree's input cells.
 use mathlib.Core.Path.{_≡_, refl, sym, _∙_, ap}
 use mathlib.Core.Bool.{Bool, true, false}
 use mathlib.Core.List.{List, [], _∷_, _++_, append-nil, append-assoc, map-append}

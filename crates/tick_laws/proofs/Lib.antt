@@ -5,4 +5,5 @@ pub mod Fills
 pub mod Outs
 pub mod Sound
 pub mod Table
+pub mod Values
 pub mod Written

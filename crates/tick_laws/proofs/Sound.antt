@@ -1,4 +1,4 @@
--- Validation passes the walk's values. Assumes nothing.
+-- Validation passes the walk's values.
 use mathlib.Core.Path.{_≡_, refl, _∙_, ap}
 use mathlib.Core.Bool.{Bool, false, cond}
 use mathlib.Core.List.{List, _++_}
@@ -13,13 +13,13 @@ use Rattle.tick_verdict.specs.declared.Validated.{Validated}
 use Rattle.tick_verdict.specs.declared.Validated.the-variants.{Sound, NotABit, NotOneHot, BadCursor}
 use Rattle.tick_verdict.specs.Verdict.{orElse, firstOf, bit, oneHot, statuses, marks, nodeOf, cellOf, nodeAt, cursor, cursorAt, low, lowAt, valuesVerdict, tickVerdict}
 use Rattle.walk.specs.Kind as K
-use Rattle.walk.specs.Lists.{All}
+use Rattle.lists.specs.Every.{All}
 use Rattle.walk.specs.Status.{Status, Success, isS, isF, isR}
 use Rattle.walk.specs.Walk.{Fate, nextFlag}
 use Rattle.construct_floats.specs.Floats.{number}
 use Rattle.construct_faithful.proofs.Values.{numbers}
 use Rattle.compile_laws.proofs.Images.{all-getD}
-use Rattle.tick_laws.specs.Values.{bitsOf}
+use Rattle.tick_laws.proofs.Values.{bitsOf}
 use Rattle.tick_laws.proofs.Bits.{bit-passes, status-sum, count-natural, count-low, NodeAt, node-at, cursor-at}
 
 first-all : (v : ℕ → Validated) (n : ℕ) → ((i : ℕ) → i < n → v i ≡ Sound) → firstOf v n ≡ Sound

@@ -1,4 +1,4 @@
--- What a tick writes of the walk's values is the walk's answer. Assumes nothing.
+-- What a tick writes of the walk's values is the walk's answer.
 use mathlib.Core.Path.{_≡_, refl, sym, _∙_, ap}
 use mathlib.Core.Bool.{Bool, true, false, cond}
 use mathlib.Core.List.{List, _++_, map, append-nil}
@@ -12,14 +12,14 @@ use Rattle.wire.specs.Storage.{leavesFrom}
 use Rattle.lists.proofs.Entries.{each-is}
 use Rattle.lists.specs.Fill.{prefix}
 use Rattle.walk.specs.Kind as K
-use Rattle.walk.specs.Lists.{All}
+use Rattle.lists.specs.Every.{All}
 use Rattle.walk.specs.Status.{Status, Success, Failure, Running, isS, isF, codeOf, notTicked}
 use Rattle.walk.specs.Walk.{Fate, nextFlag, status, edge, isRunning}
 use Rattle.tick_lane.specs.Answers.{bitOf, statusOf, statusAt, haltAt, flagAt, edgeAt, cursorAt}
 use Rattle.construct_faithful.proofs.Values.{numbers}
 use Rattle.lists.proofs.Sets.{map-at}
 use Rattle.compile_laws.proofs.Images.{all-getD}
-use Rattle.tick_laws.specs.Values.{bitsOf}
+use Rattle.tick_laws.proofs.Values.{bitsOf}
 use Rattle.tick_laws.proofs.Bits.{bit-set, bit-back, count-back, NodeAt, node-at, cursor-at}
 use Rattle.tick_laws.proofs.Sound.{noFate}
 

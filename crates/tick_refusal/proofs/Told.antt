@@ -1,4 +1,4 @@
--- An outcome told to C. Assumes nothing.
+-- An outcome told to C.
 use mathlib.Core.Path.{_≡_, ap, _∙_}
 use Rattle.tick_lane.specs.declared.Ticked.{Ticked}
 use Rattle.tick_lane.specs.Lane.{Lent, Outcome, outcome}

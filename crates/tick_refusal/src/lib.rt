@@ -1,6 +1,4 @@
 // A tick's and a validation's answers as document 01's numbers: for the listing's lines, and for callers in C.
-use index::CursorCell;
-use index::NodeIndex;
 use tick_lane::Ticked;
 use tick_verdict::Validated;
 ghost use mathlib.Core.Path.{_≡_};

@@ -1,4 +1,4 @@
--- Picking the marked nodes of a list, as a loop does it, and the ways out of a report. Assumes nothing.
+-- Picking the marked nodes of a list, as a loop does it, and the ways out of a report.
 use mathlib.Core.Path.{_≡_, refl, sym, ap, _∙_}
 use mathlib.Core.List.{List, [], _∷_}
 use mathlib.Core.Bool.{Bool, true, false, cond, _&&_}

@@ -3,7 +3,6 @@ ghost use mathlib.Core.Path.{_≡_};
 ghost use Prim.Native.Nat.{_≤_};
 ghost use lib.ListN.{length, getD};
 ghost use lib.Seq.{sets};
-ghost use Rattle.walk.specs.Status.{notTicked};
 ghost use Rattle.tick_report.specs.Report.{nodesOf, marksOf, listed, tickedOf, halted, haltsOf};
 
 // How many nodes were listed, or that an output is too short for them.

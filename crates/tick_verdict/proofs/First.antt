@@ -1,4 +1,4 @@
--- The first verdict that is not sound: what a loop, or two calls in turn, find of it. Assumes nothing.
+-- The first verdict that is not sound: what a loop, or two calls in turn, find of it.
 use mathlib.Core.Path.{_≡_, refl, sym, ap, _∙_}
 use mathlib.Core.Logic.{⊎-elim}
 use mathlib.Core.List.{[], _∷_}

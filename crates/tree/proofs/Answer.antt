@@ -1,5 +1,5 @@
 -- What `flatten` answers and leaves, from what `read_tree` answers and leaves.
--- Assumes nothing.
+--
 use mathlib.Core.Path.{_≡_, refl, sym, _∙_, ap}
 use mathlib.Core.List.{List}
 use Prim.Native.Nat.{ℕ, _≤_, _<_}

@@ -1,4 +1,4 @@
--- A forest's pre-order lists are as long as it has nodes. Assumes nothing.
+-- A forest's pre-order lists are as long as it has nodes.
 use mathlib.Core.Path.{_≡_, refl, _∙_, ap}
 use Prim.Native.Nat.{suc}
 use native.Mathlib.Omega.{arith}

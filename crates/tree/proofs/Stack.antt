@@ -1,5 +1,5 @@
 -- A stack kept in an array: its first d entries, the last on top.
--- Assumes nothing.
+--
 use mathlib.Core.Path.{_≡_, refl, ap}
 use mathlib.Core.List.{List, [], _∷_}
 use Prim.Native.Nat.{ℕ, zero, suc, _+_, _-_, _≤_, _<_}

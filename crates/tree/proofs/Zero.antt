@@ -1,4 +1,4 @@
--- A loop that fills a list from the front with one value, whatever the elements. Assumes nothing.
+-- A loop that fills a list from the front with one value, whatever the elements.
 use mathlib.Core.Path.{_≡_, refl, _∙_, ap}
 use mathlib.Core.List.{List, [], _∷_, _++_, append-nil}
 use Prim.Native.Nat.{ℕ, zero, suc, _+_, _≤_, _<_}

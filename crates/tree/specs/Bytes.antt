@@ -1,5 +1,5 @@
 -- The bytes of a tree whose labels are kinds, and which trees are within the limits. That the accepted bytes are exactly these trees' bytes
--- is `accepts` and `accepted-tree` of crate trees, proofs/Exact.
+-- is `accepts` and `accepted-tree` of crate tree_laws, proofs/Exact.
 use mathlib.Core.Path.{_≡_}
 use Prim.Native.Nat.{ℕ, _/_, _%_, _≤_, _<_}
 use mathlib.Core.List.{List, [], _∷_, _++_}

@@ -1,5 +1,5 @@
 -- The two ways through a tree, each as a recursion over the tree and as a fold of its pre-order list with a stack. That the two agree,
--- whatever is computed on the way, are the laws `fold-up` and `fold-down` of crate trees, proofs/Folds.
+-- whatever is computed on the way, are the laws `fold-up` and `fold-down` of crate tree_laws, proofs/Folds.
 use Prim.Native.Nat.{ℕ}
 use mathlib.Core.Path.{_≡_}
 use mathlib.Core.List.{List, [], _∷_, _++_}

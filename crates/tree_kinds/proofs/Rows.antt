@@ -1,5 +1,5 @@
 -- The table of kinds follows document 01's ranges, and what that says of a row.
--- Assumes nothing.
+--
 use mathlib.Core.Path.{_≡_, refl, ap, sym, _∙_}
 use mathlib.Core.Bool.{Bool, true, false}
 use mathlib.Core.List.{_∷_}

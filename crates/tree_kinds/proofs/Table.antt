@@ -1,5 +1,5 @@
 -- A rule of a table, proved at all of its entries by one computed test, one entry after the other.
--- Assumes nothing.
+--
 use mathlib.Core.Path.{_≡_, _∙_, subst, sym, refl}
 use mathlib.Core.List.{List, [], _∷_}
 use Prim.Native.Nat.{ℕ, zero, suc, _+_, _<_}

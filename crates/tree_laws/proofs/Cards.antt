@@ -1,5 +1,5 @@
 -- Document 01's bench cards on tree bytes, with 128 slots lent for kinds and for counts: rows of one table under one statement.
--- Assumes nothing.
+--
 use mathlib.Core.Path.{_≡_, refl}
 use mathlib.Core.List.{List, [], _∷_, _++_}
 use Prim.Native.Nat.{ℕ, zero, suc}

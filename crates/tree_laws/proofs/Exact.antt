@@ -1,7 +1,7 @@
 -- The accepted bytes are exactly the bytes of the trees within the limits: `accepts` says that each such tree's bytes are accepted, as its
 -- pre-order, and `tree-bytes` that they are bytes; `accepted-tree` that accepted bytes are those of such a tree, whose pre-order was read;
 -- and `one-tree` that it is the only one.
--- Assumes nothing.
+--
 use mathlib.Core.Path.{_≡_, refl, sym, _∙_, ap}
 use mathlib.Core.Bool.{Bool, true, false, cond}
 use mathlib.Core.List.{List, [], _∷_, _++_, append-assoc, append-nil}

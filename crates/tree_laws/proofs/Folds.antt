@@ -1,6 +1,6 @@
 -- A fold of a pre-order list with a stack is the recursion over the tree, once for whatever is computed: `fold-up` from the right,
 -- `fold-down` from the left.
--- Assumes nothing.
+--
 use Prim.Native.Nat.{ℕ, suc}
 use native.Mathlib.Omega.{arith}
 use mathlib.Core.Path.{_≡_, refl, ap, sym, _∙_}

@@ -1,5 +1,5 @@
 -- A record hangs on the bytes from its position on, and a whole record is its node's bytes.
--- Assumes nothing.
+--
 use mathlib.Core.Path.{_≡_, refl, sym, _∙_, ap, subst}
 use mathlib.Core.Bool.{Bool, true, false, cond}
 use mathlib.Core.List.{List, [], _∷_, _++_}

@@ -1,5 +1,5 @@
 -- A forest is all that its pre-order and its child counts say: no other forest has them. Read from the right with a stack, they give it back.
--- Assumes nothing.
+--
 use mathlib.Core.Path.{_≡_, refl, sym, _∙_, ap}
 use mathlib.Core.List.{List, [], _∷_, _++_, append-assoc, append-nil}
 use Prim.Native.Nat.{ℕ, suc}

@@ -1,5 +1,5 @@
 -- What a record is by the tests that a reader makes of its family: those that have failed rule families out.
--- Assumes nothing.
+--
 use mathlib.Core.Path.{_≡_, refl}
 use mathlib.Core.List.{List, [], _∷_}
 use Prim.Native.Nat.{ℕ}

@@ -1,4 +1,4 @@
--- Validation's three ways out. Assumes nothing.
+-- Validation's three ways out.
 use mathlib.Core.Path.{_≡_, ap, _∙_}
 use mathlib.Core.List.{List}
 use mathlib.Core.Bool.{true, false}

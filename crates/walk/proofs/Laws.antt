@@ -7,9 +7,9 @@ use mathlib.Core.Path.{_∙_, _≡_, ap, refl}
 use lib.Dec.{T, leb, leb→le}
 use lib.ListN.{getD, length, length-append, length-map}
 use Rattle.tree.specs.Forest.{Forest, node, none, size, width}
-use Rattle.walk.proofs.Lists.{all-append}
+use Rattle.lists.proofs.Every.{all-append}
 use Rattle.walk.specs.Kind.{Composite, Constant, Force, Inverter, Kind, Leaf, bit, cells, hasCursor, isLeaf, kindOf, slots}
-use Rattle.walk.specs.Lists.{All}
+use Rattle.lists.specs.Every.{All}
 use Rattle.walk.specs.Status.{Status, advances, isR}
 use Rattle.walk.specs.Walk.{Answer, At, Call, Fate, Own, afterStop, answerOf, asRead, cellsIn, countIn, each, edge, fates, fatesOf, nextCursor, nextFlag, owned, resume, resumeAt, rootCall, slotsIn, startOf, stopFrom, tells, walk, wouldBe}
 

@@ -1,7 +1,7 @@
--- The bench cards on the walk, as rows of one table under one statement.
+-- The bench cards on ticks, as the walk answers them. Crate cards takes document 01's from here into its table.
 use Prim.Native.Nat.{ℕ}
 use mathlib.Core.Path.{_≡_, refl}
-use mathlib.Core.List.{List, [], _∷_, map}
+use mathlib.Core.List.{List, [], _∷_, _++_, map}
 use Rattle.tree.specs.Forest.{Forest, none, node}
 use Rattle.walk.specs.Kind.{kindOf}
 use Rattle.walk.specs.Walk.{Answer, walk, reportOrder}
@@ -26,17 +26,38 @@ reactive = node 5 (node 1 none (node 4 (node 1 none none) none)) none
 abbrev pub others : Forest ℕ
 others = node 6 (node 8 (node 1 none none) (node 10 (node 2 none none) (node 9 (node 3 none none) (node 7 (node 1 none none) none)))) none
 
--- two cards on `sequence`, three on `reactive`, the two lines of the listing, and a row of our own on `others`
-abbrev pub cards : List Card
-cards =
+-- ---- document 01's cards
+
+-- the rows that two leaves can be given
+abbrev pub rowsOfTwo : List (List ℕ)
+rowsOfTwo =
+    (0 ∷ 0 ∷ [])
+    ∷ (0 ∷ 1 ∷ [])
+    ∷ (0 ∷ 2 ∷ [])
+    ∷ (1 ∷ 0 ∷ [])
+    ∷ (1 ∷ 1 ∷ [])
+    ∷ (1 ∷ 2 ∷ [])
+    ∷ (2 ∷ 0 ∷ [])
+    ∷ (2 ∷ 1 ∷ [])
+    ∷ (2 ∷ 2 ∷ [])
+    ∷ []
+
+-- "cursor 2, flags 1,0,1: statuses 0,3,3, flags 0,0,1, cursor 0": no leaf is named, so it is a card for each row
+abbrev pub pastTheEnd : List ℕ → Card
+pastTheEnd row =
     record {
       tree = sequence;
       flags = 1 ∷ 0 ∷ 1 ∷ [];
       cursors = 2 ∷ [];
-      row = 0 ∷ 0 ∷ [];
+      row = row;
       answer = record { statuses = 0 ∷ 3 ∷ 3 ∷ []; halts = 0 ∷ 0 ∷ 0 ∷ []; flags = 0 ∷ 0 ∷ 1 ∷ []; cursors = 0 ∷ []; edges = 0 ∷ 0 ∷ [] };
     }
-    ∷ record {
+
+-- that and one more on `sequence`, three on `reactive`
+abbrev pub document : List Card
+document =
+    map pastTheEnd rowsOfTwo
+    ++ record {
       tree = sequence;
       flags = 1 ∷ 0 ∷ 1 ∷ [];
       cursors = 0 ∷ [];
@@ -64,7 +85,13 @@ cards =
       row = 1 ∷ 0 ∷ [];
       answer = record { statuses = 1 ∷ 1 ∷ 3 ∷ 3 ∷ []; halts = 0 ∷ 0 ∷ 0 ∷ 0 ∷ []; flags = 0 ∷ 0 ∷ 0 ∷ 1 ∷ []; cursors = 65535 ∷ []; edges = 0 ∷ 0 ∷ [] };
     }
-    ∷ record {
+    ∷ []
+
+-- ---- ours: the two lines of the listing, and a row on `others`
+
+abbrev pub ours : List Card
+ours =
+    record {
       tree = sequence;
       flags = 0 ∷ 0 ∷ 0 ∷ [];
       cursors = 0 ∷ [];
@@ -93,14 +120,22 @@ cards =
     }
     ∷ []
 
--- the walk's answers to the cards
+-- ---- they hold
+
 unfoldable pub answered : List Card → List Answer
 unfolding kindOf walk
 answered cs = map (λ (c : Card). walk (c .tree) (c .flags) (c .cursors) (c .row)) cs
 
-pub cards-hold : answered cards ≡ map (λ (c : Card). c .answer) cards
+abbrev pub Hold : List Card → Type 0
+Hold cs = answered cs ≡ map (λ (c : Card). c .answer) cs
+
+pub document-holds : Hold document
 unfolding answered
-cards-hold = refl
+document-holds = refl
+
+pub ours-hold : Hold ours
+unfolding answered
+ours-hold = refl
 
 pub order-holds : reportOrder reactive ≡ 1 ∷ 3 ∷ 2 ∷ 0 ∷ []
 order-holds = refl

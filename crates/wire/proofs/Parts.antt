@@ -1,17 +1,14 @@
--- Parts of the pools, taken apart at their first term; what a look-up gives; forms with equal terms mean the same. Assumes nothing.
-use mathlib.Core.Path.{_≡_, refl}
-use mathlib.Core.List.{List, [], _∷_, map}
-use Prim.Native.Nat.{ℕ, zero, suc, _+_, _-_, _≤_, _<_}
+-- Parts of the pools, taken apart at their first term; what a look-up gives; forms with equal terms mean the same.
+use mathlib.Core.Path.{_≡_}
+use mathlib.Core.List.{List, [], _∷_}
+use Prim.Native.Nat.{ℕ, suc, _+_, _-_, _≤_, _<_}
 use native.Mathlib.Numerals.{add-one}
 use native.Mathlib.Omega.{arith}
 use borrow.Author.Tests.{le-leb, lt-leb}
-use lib.ListN.{length, getD, take, drop}
-use lib.Seq.{drop-cons}
-use lib.Ieee.{Float, nan}
+use lib.ListN.{length, take, drop}
+use lib.Ieee.{Float}
 use Rattle.wire.specs.declared.Form.{Form}
-use Rattle.wire.specs.declared.Term.{Term}
-use Rattle.lists.specs.Each.{each}
-use Rattle.wire.specs.Terms.{termAt, part, termsOf, meaning, lookUp}
+use Rattle.wire.specs.Terms.{termAt, part, lookUp}
 use Rattle.lists.proofs.Entries.{each-none, each-cons}
 
 module _ (ws : List ℕ) (cs : List Float) where
@@ -34,10 +31,6 @@ module _ (ws : List ℕ) (cs : List Float) where
       let q : e - i ≡ 0 = omega arith in
       rw q (part-none i)
 
--- "Two forms whose terms are equal lists mean the same", wherever they lie
-pub same-meaning : (ws ws′ : List ℕ) (cs cs′ : List Float) (f g : Form) → f .bias ≡ g .bias → termsOf ws cs f ≡ termsOf ws′ cs′ g → meaning ws cs f ≡ meaning ws′ cs′ g
-same-meaning ws ws′ cs cs′ f g b t = λ i. record { bias = b i; terms = t i }
-
 -- ---- a look-up
 
 module _ {A : Type 0} (f : Form) (pool : List A) where
@@ -50,21 +43,3 @@ module _ {A : Type 0} (f : Form) (pool : List A) where
   look-inside h =
       let q : f .first + f .len - f .first ≡ f .len = omega arith in
       rw (le-leb (f .first + f .len) (length pool) h, q)
-
--- what is looked up inside a pool is its entries by index
-slice-each : {A B : Type 0} (pool : List A) (d : A) (g : ℕ → B) (h : B → A) → ((k : ℕ) → getD pool k d ≡ h (g k))
-    → (i n : ℕ) → i + n ≤ length pool → take n (drop i pool) ≡ map h (each g i n)
-unfolding each
-slice-each pool d g h e i zero l = refl
-slice-each pool d g h e i (suc n) l =
-    rw (drop-cons pool i d (omega arith)) (λ j. e i j ∷ slice-each pool d g h e (suc i) n (omega arith) j)
-
-module _ (ws : List ℕ) (cs : List Float) (f : Form) where
-  -- inside its pool a look-up gives the coefficients, or the wires, of the form's terms
-  pub look-coefs : f .first + f .len ≤ length cs → lookUp f cs ≡ map (λ (t : Term). t .coef) (termsOf ws cs f)
-  unfolding lookUp part
-  look-coefs h = rw (le-leb (f .first + f .len) (length cs) h) (slice-each cs nan (termAt ws cs) (λ (t : Term). t .coef) (λ k. refl) (f .first) (f .len) h)
-
-  pub look-wires : f .first + f .len ≤ length ws → lookUp f ws ≡ map (λ (t : Term). t .wire .0) (termsOf ws cs f)
-  unfolding lookUp part
-  look-wires h = rw (le-leb (f .first + f .len) (length ws) h) (slice-each ws 0 (termAt ws cs) (λ (t : Term). t .wire .0) (λ k. refl) (f .first) (f .len) h)

@@ -1,8 +1,8 @@
--- What storage that holds its counts tells a reader, and the lists of a circuit entry by entry. Assumes nothing.
-use mathlib.Core.Path.{_≡_, sym, ap, _∙_}
+-- What storage that holds its counts tells a reader, and the lists of a circuit entry by entry.
+use mathlib.Core.Path.{_≡_, sym, _∙_}
 use mathlib.Core.List.{List, []}
 use mathlib.Core.Bool.{true, _&&_}
-use Prim.Native.Nat.{ℕ, _+_, _*_, _≤_, _<_}
+use Prim.Native.Nat.{ℕ, _+_, _<_}
 use native.Mathlib.Omega.{arith}
 use borrow.Author.Tests.{le-leb, leb-true}
 use lib.ListN.{length, getD}
@@ -10,18 +10,12 @@ use lib.Dec.{leb}
 use lib.Ieee.{Float, nan}
 use lib.Seq.{ext-getD}
 use Rattle.wire.specs.declared.Counts.{Counts}
-use Rattle.wire.specs.Terms.{Affine}
-use Rattle.wire.specs.Storage.{opsFrom, opBiasesFrom, opSlots, termSlots, storageHolds, Op, opAt, outputAt, outputCount, numbersFrom, circuitOf, leavesFrom, cursorsFrom, reportFrom, Circuit, neither}
+use Rattle.wire.specs.Held.{Held}
+use Rattle.wire.specs.Storage.{opsFrom, opBiasesFrom, opSlots, termSlots, storageHolds, opAt, outputAt, outputCount, numbersFrom, circuitOf, leavesFrom, cursorsFrom, reportFrom, Circuit, neither}
 use Rattle.lists.proofs.Tests.{both-left, both-right}
 use Rattle.lists.proofs.Entries.{each-length, each-getD, each-is}
 
 -- ---- slots
-
-pub record Held (n : Counts) (nums biases wires coefs : ℕ) : Type 0 where
-  pub in-nums : opsFrom + 5 * n .ops ≤ nums
-  pub in-biases : opBiasesFrom + 2 * n .ops ≤ biases
-  pub in-wires : n .terms ≤ wires
-  pub in-coefs : n .terms ≤ coefs
 
 pub held : (n : Counts) (nums biases wires coefs : ℕ) → storageHolds n nums biases wires coefs ≡ true → Held n nums biases wires coefs
 unfolding storageHolds
@@ -48,15 +42,6 @@ holds n nums biases wires coefs h =
     )
 
 -- ---- the lists of a circuit
-
-module _ (n : Counts) (nums : List ℕ) (biases : List Float) (wires : List ℕ) (coefs : List Float) where
-  pub ops-at : (i : ℕ) (d : Op) → i < n .ops → getD (circuitOf n nums biases wires coefs .ops) i d ≡ opAt nums biases wires coefs i
-  unfolding circuitOf
-  ops-at i d h = let q : 0 + i ≡ i = omega arith in each-getD (opAt nums biases wires coefs) 0 (n .ops) i d h ∙ ap (opAt nums biases wires coefs) q
-
-  pub outputs-at : (k : ℕ) (d : Affine) → k < outputCount n → getD (circuitOf n nums biases wires coefs .outputs) k d ≡ outputAt nums biases wires coefs k
-  unfolding circuitOf
-  outputs-at k d h = let q : 0 + k ≡ k = omega arith in each-getD (outputAt nums biases wires coefs) 0 (outputCount n) k d h ∙ ap (outputAt nums biases wires coefs) q
 
 -- a list of nodes: its length, and its entry k
 pub numbers-length : (nums : List ℕ) (from n : ℕ) → length (numbersFrom nums from n) ≡ n

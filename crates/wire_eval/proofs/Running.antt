@@ -1,4 +1,4 @@
--- The first op that cannot be valued, and what evaluating leaves. Assumes nothing.
+-- The first op that cannot be valued, and what evaluating leaves.
 use mathlib.Core.Path.{_≡_, refl, sym, ap, _∙_}
 use mathlib.Core.List.{List}
 use mathlib.Core.Bool.{Bool, true, false}

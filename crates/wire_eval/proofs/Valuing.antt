@@ -1,4 +1,4 @@
--- A form's value and an op's, as the code goes. Assumes nothing.
+-- A form's value and an op's, as the code goes.
 use mathlib.Core.Path.{_≡_, refl, sym, ap}
 use mathlib.Core.List.{List, [], _∷_}
 use mathlib.Core.Bool.{Bool, true, false, cond, false≢true}

@@ -1,7 +1,7 @@
--- The largest of a list as a loop finds it; the layer of a wire, the depth of an op and the layers of all ops. Assumes nothing.
+-- The largest of a list as a loop finds it; the layer of a wire, the depth of an op and the layers of all ops.
 use mathlib.Core.Path.{_≡_, refl, sym, ap, _∙_}
 use mathlib.Core.List.{List, _++_}
-use Prim.Native.Nat.{ℕ, zero, suc, _+_, _-_, _≤_, _<_, min, max}
+use Prim.Native.Nat.{ℕ, _+_, _≤_, _<_, min, max}
 use native.Mathlib.Numerals.{add-one}
 use native.Mathlib.Omega.{arith}
 use borrow.Author.Tests.{le-leb, lt-leb}
@@ -69,12 +69,6 @@ module _ (ws layers : List ℕ) where
 -- ---- all ops: the first values of the slice are the layers so far, and what is past them stays
 
 module _ (op : ℕ → Op) (ws : List ℕ) (cells values : ℕ) where
-  pub after-length : (n : ℕ) → length (layersAfter op ws cells values n) ≡ values
-  unfolding layersAfter
-  after-length zero = length-replicate values 0
-  after-length (suc n) =
-      length-set (layersAfter op ws cells values n) (cells + n) (onePast (opDepth ws (layersAfter op ws cells values n) (op n))) ∙ after-length n
-
   module _ (entry : List ℕ) where
     pub record So (now : List ℕ) (n : ℕ) : Type 0 where
       pub front : take values now ≡ layersAfter op ws cells values n

@@ -1,3 +1,2 @@
 pub mod Deep
 pub mod Low
-pub mod Unique

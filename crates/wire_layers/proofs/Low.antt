@@ -1,4 +1,4 @@
--- A layer is at most the number of ops so far, so with fewer than 2^32 ops no layer is cut to fit. Assumes nothing.
+-- A layer is at most the number of ops so far, so with fewer than 2^32 ops no layer is cut to fit.
 use mathlib.Core.Path.{_≡_}
 use mathlib.Core.List.{List, [], _∷_}
 use Prim.Native.Nat.{ℕ, zero, suc, _+_, _≤_, _<_}

@@ -5,7 +5,7 @@ use wire::Form;
 use wire::Op;
 ghost use mathlib.Core.Path.{_≡_};
 ghost use mathlib.Core.List.{_++_};
-ghost use Prim.Native.Nat.{_+_, _≤_};
+ghost use Prim.Native.Nat.{_≤_};
 ghost use lib.ListN.{length, take, drop, replicate};
 ghost use Rattle.wire_layers.specs.Layers.{largest, layerOf, formDepth, opDepth, onePast, layered, layersLeft};
 

@@ -1,4 +1,4 @@
--- The loops that add up a form and run the ops. Assumes nothing.
+-- The loops that add up a form and run the ops.
 use mathlib.Core.Path.{_≡_, refl, ap, _∙_}
 use mathlib.Core.List.{List}
 use Prim.Native.Nat.{ℕ, zero, suc, _+_, _-_, _≤_, _<_}

@@ -1,5 +1,5 @@
--- The test of a form, an op in storage and its test, as the code goes. Assumes nothing.
-use mathlib.Core.Path.{_≡_, refl, sym, ap}
+-- The test of a form, an op in storage and its test, as the code goes.
+use mathlib.Core.Path.{_≡_, refl, sym}
 use mathlib.Core.List.{List}
 use mathlib.Core.Bool.{Bool, true, false, cond, _&&_, false≢true}
 use Prim.Native.Nat.{ℕ, _+_, _-_, _≤_, _<_}

@@ -1,4 +1,4 @@
-//! The C functions of crate arenac, callable from Rust on two pools of terms.
+//! The C functions of crate arena_c, callable from Rust on two pools of terms.
 
 use archive::call;
 

@@ -1,4 +1,4 @@
-//! Random forms, NaN, infinities, -0 and short pools among them: crate arenac makes the sums and multiples that the Rust's own `Affine` does.
+//! Random forms, NaN, infinities, -0 and short pools among them: crate arena_c makes the sums and multiples that the Rust's own `Affine` does.
 use arenatest::{Form, Pools, Row};
 use behavior_machines_circuit::{Affine, Builder};
 use reading::rng::Rng;

@@ -1,4 +1,4 @@
-//! The C functions of crate wirec, callable from Rust, and the same answers in plain Rust after wire.rs.
+//! The C functions of crate wire_c, callable from Rust, and the same answers in plain Rust after wire.rs.
 
 use reading::Rng;
 

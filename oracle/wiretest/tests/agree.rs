@@ -1,4 +1,4 @@
-//! Random forms, ops and circuits, NaN, infinities, -0 and short tables among them: crate wirec answers as plain Rust does.
+//! Random forms, ops and circuits, NaN, infinities, -0 and short tables among them: crate wire_c answers as plain Rust does.
 use archive::same;
 use reading::Rng;
 use reading::vectors::Counts;

@@ -1,4 +1,4 @@
--- `arena::offset` meets its contract. Assumes nothing.
+-- `arena::offset` meets its contract.
 use mathlib.Core.Path.{refl}
 use Rattle.arena.proofs.offset.Statement.{statement}
 use Rattle.arena.proofs.offset.Tie as tie

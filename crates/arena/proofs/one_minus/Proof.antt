@@ -1,4 +1,4 @@
--- `arena::one_minus` meets its contract. Assumes nothing.
+-- `arena::one_minus` meets its contract.
 use Rattle.arena.proofs.Outcome.{one-minus-made}
 use borrow.Author.Needs.{needs}
 use Rattle.arena.proofs.one_minus.Statement.{statement}

@@ -1,4 +1,4 @@
--- `arena::plus` meets its contract. Assumes nothing.
+-- `arena::plus` meets its contract.
 use mathlib.Core.Path.{sym, _∙_}
 use native.Mathlib.Omega.{arith}
 use lib.ListN.{length}

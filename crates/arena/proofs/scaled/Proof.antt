@@ -1,4 +1,4 @@
--- `arena::scaled` meets its contract. Assumes nothing.
+-- `arena::scaled` meets its contract.
 use mathlib.Core.Path.{sym, _∙_}
 use native.Mathlib.Omega.{arith}
 use lib.ListN.{length}

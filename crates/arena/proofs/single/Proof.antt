@@ -1,4 +1,4 @@
--- `arena::single` meets its contract. Assumes nothing.
+-- `arena::single` meets its contract.
 use mathlib.Core.Path.{_≡_, sym, ap, _∙_}
 use Prim.Native.Nat.{ℕ, _<_}
 use native.Mathlib.Omega.{arith}

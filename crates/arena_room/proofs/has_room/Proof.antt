@@ -1,4 +1,4 @@
--- `fits::has_room` meets its contract. Assumes nothing.
+-- `arena_room::has_room` meets its contract.
 use Prim.Native.Nat.{_+_, _-_}
 use mathlib.Core.Path.{sym}
 use native.Mathlib.Omega.{arith}
@@ -6,8 +6,6 @@ use borrow.Author.Tests.{lt-leb}
 use Rattle.arena_room.proofs.Tests.{leb-iff}
 use Rattle.arena_room.proofs.has_room.Statement.{statement}
 use Rattle.arena_room.proofs.has_room.Tie as tie
-use Rattle.arena_room.proofs.has_room.Reads as reads
-use Rattle.arena_room.proofs.has_room.Lts as lts
 
 returns : tie.Need-returns
 returns c = let a = c .before .args in sym (lt-leb (a .used + a .n + a .m) (a .slots) (omega arith))

@@ -1,4 +1,4 @@
--- `fits::in_use` meets its contract. Assumes nothing.
+-- `arena_room::in_use` meets its contract.
 use Prim.Native.Nat.{_+_, _-_}
 use mathlib.Core.Path.{sym}
 use native.Mathlib.Omega.{arith}
@@ -6,8 +6,6 @@ use borrow.Author.Tests.{lt-leb}
 use Rattle.arena_room.proofs.Tests.{leb-iff}
 use Rattle.arena_room.proofs.in_use.Statement.{statement}
 use Rattle.arena_room.proofs.in_use.Tie as tie
-use Rattle.arena_room.proofs.in_use.Reads as reads
-use Rattle.arena_room.proofs.in_use.Lts as lts
 
 returns : tie.Need-returns
 returns c = let a = c .before .args in sym (lt-leb (a .f .first + a .f .len) (a .used) (omega arith))

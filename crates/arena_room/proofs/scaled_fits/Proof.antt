@@ -1,4 +1,4 @@
--- `fits::scaled_fits` meets its contract. Assumes nothing.
+-- `arena_room::scaled_fits` meets its contract.
 use mathlib.Core.Path.{_∙_}
 use mathlib.Core.Bool.{_&&_}
 use Prim.Native.Nat.{_+_}

@@ -1,4 +1,4 @@
--- `fits::sum_fits` meets its contract. Assumes nothing.
+-- `arena_room::sum_fits` meets its contract.
 use mathlib.Core.Path.{ap, _∙_}
 use mathlib.Core.Bool.{_&&_}
 use Prim.Native.Nat.{_+_}

@@ -1,4 +1,4 @@
--- `builder::and` meets its contract. Assumes nothing.
+-- `builder::and` meets its contract.
 use Rattle.builder_table.specs.Work.{mem}
 use Rattle.builder.proofs.Made.{and-left, and-right, and-false, and-made, either-test}
 use mathlib.Core.Path.{sym, _∙_}

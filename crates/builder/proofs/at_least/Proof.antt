@@ -1,4 +1,4 @@
--- `builder::at_least` meets its contract. Assumes nothing.
+-- `builder::at_least` meets its contract.
 use Rattle.builder_table.specs.Work.{mem}
 use Rattle.builder.proofs.Made.{least-constant, least-made}
 use native.Mathlib.Omega.{arith}

@@ -1,4 +1,4 @@
--- `builder::either` meets its contract. Assumes nothing.
+-- `builder::either` meets its contract.
 use Rattle.builder_table.specs.Work.{mem}
 use Rattle.builder.proofs.Made.{either-made}
 use native.Mathlib.Omega.{arith}

@@ -1,4 +1,4 @@
--- `builder::is_zero` meets its contract. Assumes nothing.
+-- `builder::is_zero` meets its contract.
 use Rattle.builder_table.specs.Work.{mem}
 use Rattle.builder.proofs.Made.{zero-constant, zero-made}
 use native.Mathlib.Omega.{arith}

@@ -1,4 +1,4 @@
--- `builder::minus` meets its contract. Assumes nothing.
+-- `builder::minus` meets its contract.
 use Rattle.builder_table.specs.Work.{mem}
 use Rattle.builder.proofs.Made.{minus-made}
 use borrow.Author.Needs.{needs}

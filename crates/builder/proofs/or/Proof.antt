@@ -1,4 +1,4 @@
--- `builder::or` meets its contract. Assumes nothing.
+-- `builder::or` meets its contract.
 use Rattle.builder_table.specs.Work.{mem}
 use Rattle.builder.proofs.Made.{or-true, or-left, or-right, or-made, either-test}
 use mathlib.Core.Path.{sym, _∙_}

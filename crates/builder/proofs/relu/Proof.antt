@@ -1,4 +1,4 @@
--- `builder::relu` meets its contract. Assumes nothing.
+-- `builder::relu` meets its contract.
 use Rattle.builder_table.specs.Work.{mem}
 use Rattle.builder.proofs.Made.{relu-made}
 use borrow.Author.Needs.{needs}

@@ -1,4 +1,4 @@
--- `builder::step` meets its contract. Assumes nothing.
+-- `builder::step` meets its contract.
 use Rattle.builder_table.specs.Work.{mem}
 use Rattle.builder.proofs.Made.{step-made}
 use native.Mathlib.Omega.{arith}

@@ -1,4 +1,4 @@
--- `table::push` meets its contract. Assumes nothing.
+-- `builder_table::push` meets its contract.
 use Prim.Native.Nat.{_+_, _*_}
 use native.Mathlib.Omega.{arith}
 use borrow.Author.Needs.{needs}

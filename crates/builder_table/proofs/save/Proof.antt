@@ -1,4 +1,4 @@
--- `table::save` meets its contract. Assumes nothing.
+-- `builder_table::save` meets its contract.
 use Prim.Native.Nat.{_*_}
 use native.Mathlib.Omega.{arith}
 use lib.ListN.{length-set}

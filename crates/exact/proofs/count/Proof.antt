@@ -1,4 +1,4 @@
--- `exact::count` meets its contract. Assumes nothing.
+-- `exact::count` meets its contract.
 use mathlib.Core.Path.{_≡_, sym, ap, _∙_, subst}
 use mathlib.Core.Bool.{Bool, _&&_, cond}
 use lib.Dec.{T}

@@ -1,4 +1,4 @@
--- `exact::is_bit` meets its contract. Assumes nothing.
+-- `exact::is_bit` meets its contract.
 use mathlib.Core.Path.{sym, ap, _∙_}
 use mathlib.Core.Bool.{Bool, _||_}
 use lib.Ieee.{eq}

@@ -1,4 +1,4 @@
--- `exact::is_coefficient` meets its contract. Assumes nothing.
+-- `exact::is_coefficient` meets its contract.
 use mathlib.Core.Path.{ap}
 use mathlib.Core.Bool.{Bool, not, _&&_}
 use lib.Ieee.{eq, ne}

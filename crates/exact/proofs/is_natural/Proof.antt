@@ -1,4 +1,4 @@
--- `exact::is_natural` meets its contract. Assumes nothing.
+-- `exact::is_natural` meets its contract.
 use mathlib.Core.Path.{sym, subst}
 use mathlib.Core.Bool.{Bool, not}
 use lib.Dec.{T}

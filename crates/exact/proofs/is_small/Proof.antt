@@ -1,4 +1,4 @@
--- `exact::is_small` meets its contract. Assumes nothing.
+-- `exact::is_small` meets its contract.
 use Rattle.exact.proofs.Small.{small-test}
 use Rattle.exact.proofs.is_small.Statement.{statement}
 use Rattle.exact.proofs.is_small.Tie as tie

@@ -1,4 +1,4 @@
--- `exact::of_cursor` meets its contract: after the branch the number is the smaller of the two. Assumes nothing.
+-- `exact::of_cursor` meets its contract: after the branch the number is the smaller of the two.
 use mathlib.Core.Path.{_≡_, ap, _∙_}
 use mathlib.Core.Logic.{⊎-elim}
 use Prim.Native.Nat.{ℕ, min, _^_}

@@ -1,4 +1,4 @@
--- `exact::positive_part` meets its contract. Assumes nothing.
+-- `exact::positive_part` meets its contract.
 use mathlib.Core.Path.{sym, ap}
 use mathlib.Core.Bool.{Bool, cond}
 use Rattle.exact.specs.Whole.{zero32}

@@ -1,5 +1,5 @@
--- `listends::finish` meets its contract.
--- Assumes nothing.
+-- `list_ends::finish` meets its contract.
+--
 use denote.Ref.{now}
 use mathlib.Core.Path.{sym, ap, _∙_}
 use lib.ListN.{length}

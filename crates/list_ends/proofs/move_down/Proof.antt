@@ -1,5 +1,5 @@
--- `listends::move_down` meets its contract: a byte a turn, and those ahead are as they were.
--- Assumes nothing.
+-- `list_ends::move_down` meets its contract: a byte a turn, and those ahead are as they were.
+--
 use denote.Ref.{now}
 use Prim.Native.Nat.{_-_}
 use native.Mathlib.Omega.{arith}

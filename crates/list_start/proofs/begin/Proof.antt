@@ -1,5 +1,5 @@
--- `liststart::begin` meets its contract: one case a way through.
--- Assumes nothing.
+-- `list_start::begin` meets its contract: one case a way through.
+--
 use denote.Ref.{now}
 use native.Mathlib.Omega.{arith}
 use Rattle.list_machine.specs.Begin.{rooms}

@@ -1,5 +1,5 @@
--- `liststart::begin_compiled` meets its contract: rows are due, or the tree is refused.
--- Assumes nothing.
+-- `list_start::begin_compiled` meets its contract: rows are due, or the tree is refused.
+--
 use denote.Ref.{now}
 use mathlib.Core.Path.{sym}
 use Rattle.list_start.proofs.Begins.{answered, accepted-left}

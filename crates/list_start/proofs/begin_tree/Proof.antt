@@ -1,5 +1,5 @@
--- `liststart::begin_tree` meets its contract: what compiling leaves, then what is made of its answer.
--- Assumes nothing.
+-- `list_start::begin_tree` meets its contract: what compiling leaves, then what is made of its answer.
+--
 use denote.Ref.{now}
 use Rattle.list_machine.specs.Begin.{rooms}
 use Rattle.list_start.proofs.Begins.{compiled-left}

@@ -1,5 +1,5 @@
--- `liststart::refused` meets its contract: the line that says so, and the run ends.
--- Assumes nothing.
+-- `list_start::refused` meets its contract: the line that says so, and the run ends.
+--
 use denote.Ref.{now}
 use Rattle.list_start.proofs.Begins.{refused-left}
 use borrow.Author.Needs.{needs}

@@ -1,5 +1,5 @@
--- `listing::write_line` meets its contract: the line that was spelled, or none.
--- Assumes nothing.
+-- `list_text::write_line` meets its contract: the line that was spelled, or none.
+--
 use Prim.Native.Nat.{ℕ}
 use mathlib.Core.Path.{sym, _∙_, ap}
 use mathlib.Core.List.{List}

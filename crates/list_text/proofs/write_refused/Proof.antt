@@ -1,5 +1,5 @@
--- `listing::write_refused` meets its contract: the line that was spelled.
--- Assumes nothing.
+-- `list_text::write_refused` meets its contract: the line that was spelled.
+--
 use Prim.Native.Nat.{ℕ}
 use mathlib.Core.Path.{sym, _∙_, ap}
 use mathlib.Core.List.{List}

@@ -1,4 +1,4 @@
--- `raise::arbitrate` meets its contract. Assumes nothing.
+-- `lower_arbitrate::arbitrate` meets its contract.
 use borrow.Author.Needs.{needs}
 use native.Mathlib.Omega.{arith}
 use mathlib.Core.Path.{_≡_, refl}

@@ -1,4 +1,4 @@
--- `raise::up_node` meets its contract. Assumes nothing.
+-- `lower_arbitrate::up_node` meets its contract.
 use native.Mathlib.Omega.{arith}
 use Rattle.builder_table.specs.Work.{mem}
 use Rattle.lower_arbitrate.proofs.UpNode.{leaf-ready, fixed-ready, invert-ready, force-ready, ordered-ready, leaf-node, fixed-node, invert-node, force-node, ordered-node}

@@ -1,4 +1,4 @@
--- `raise::up_step` meets its contract. Assumes nothing.
+-- `lower_arbitrate::up_step` meets its contract.
 use mathlib.Core.Path.{sym, _∙_}
 use borrow.Author.Tests.{not-true, not-false}
 use Rattle.builder_table.specs.Work.{mem}

@@ -1,4 +1,4 @@
--- `build::build` meets its contract. Assumes nothing.
+-- `lower_build::build` meets its contract.
 use native.Mathlib.Omega.{arith}
 use Rattle.builder_table.specs.Work.{mem}
 use Rattle.lower_build.proofs.Made.{build-made, rows-given}

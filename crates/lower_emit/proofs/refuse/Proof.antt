@@ -1,4 +1,4 @@
--- `settle::refuse` meets its contract. Assumes nothing.
+-- `lower_emit::refuse` meets its contract.
 use Rattle.compile.specs.declared.Compiled.{Compiled}
 use Rattle.lower_emit.specs.Settle.{outcome}
 use borrow.Author.Needs.{needs}

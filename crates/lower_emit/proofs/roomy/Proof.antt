@@ -1,4 +1,4 @@
--- `settle::roomy` meets its contract. Assumes nothing.
+-- `lower_emit::roomy` meets its contract.
 use borrow.Author.Needs.{needs}
 use Rattle.compile.specs.Compile.{roomy}
 use Rattle.lower_emit.proofs.roomy.Statement.{statement}

@@ -1,4 +1,4 @@
--- `settle::settle` meets its contract. Assumes nothing.
+-- `lower_emit::settle` meets its contract.
 use native.Mathlib.Omega.{arith}
 use lib.ListN.{length}
 use Rattle.builder_table.specs.Work.{mem}

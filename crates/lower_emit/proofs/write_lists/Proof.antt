@@ -1,4 +1,4 @@
--- `settle::write_lists` meets its contract. Assumes nothing.
+-- `lower_emit::write_lists` meets its contract.
 use Rattle.lower_emit.proofs.Lists.{listed-made}
 use borrow.Author.Needs.{needs}
 use Rattle.lower_emit.proofs.write_lists.Statement.{statement}

@@ -1,4 +1,4 @@
--- `settle::zero_numbers` meets its contract. Assumes nothing.
+-- `lower_emit::zero_numbers` meets its contract.
 use Prim.Native.Nat.{_-_}
 use native.Mathlib.Omega.{arith}
 use borrow.Author.Needs.{needs}

@@ -1,4 +1,4 @@
--- `descend::composite` meets its contract. Assumes nothing.
+-- `lower_reach::composite` meets its contract.
 use native.Mathlib.Omega.{arith}
 use borrow.Author.Tests.{not-true, not-false}
 use Rattle.builder_table.specs.Work.{mem}

@@ -1,4 +1,4 @@
--- `descend::reach` meets its contract. Assumes nothing.
+-- `lower_reach::reach` meets its contract.
 use native.Mathlib.Omega.{arith}
 use Rattle.builder_table.specs.Work.{mem}
 use Rattle.lower_reach.proofs.DescendMade.{reach-start, reach-turn, reach-end}

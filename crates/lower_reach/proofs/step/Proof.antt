@@ -1,4 +1,4 @@
--- `descend::step` meets its contract. Assumes nothing.
+-- `lower_reach::step` meets its contract.
 use native.Mathlib.Omega.{arith}
 use mathlib.Core.Path.{refl}
 use Rattle.walk.specs.Kind.{kindOf}

@@ -1,4 +1,4 @@
--- `descend::stuck` meets its contract. Assumes nothing.
+-- `lower_reach::stuck` meets its contract.
 use mathlib.Core.Path.{refl}
 use Rattle.lower_reach.proofs.stuck.Statement.{statement}
 use Rattle.lower_reach.proofs.stuck.Tie as tie

@@ -1,4 +1,4 @@
--- `tick_refusal::of_compiled` meets its contract. Assumes nothing.
+-- `palthengi::of_compiled` meets its contract.
 use mathlib.Core.Path.{sym, ap, _∙_}
 use Rattle.palthengi.specs.Compilation.{ofCompiled}
 use borrow.Author.Needs.{needs}

@@ -1,4 +1,4 @@
--- `palthengi::palthengi_check` meets its contract. Assumes nothing.
+-- `palthengi::palthengi_check` meets its contract.
 use mathlib.Core.Path.{sym, ap, _∙_}
 use borrow.Author.Needs.{needs}
 use Rattle.tick_refusal.specs.Refusal.{checkNumber}

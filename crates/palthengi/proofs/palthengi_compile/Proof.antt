@@ -1,4 +1,4 @@
--- `palthengi::palthengi_compile` meets its contract. Assumes nothing.
+-- `palthengi::palthengi_compile` meets its contract.
 use Rattle.palthengi.proofs.Made.{made-is}
 use borrow.Author.Needs.{needs}
 use Rattle.palthengi.proofs.palthengi_compile.Statement.{statement}

@@ -1,4 +1,4 @@
--- `palthengi::palthengi_tick` meets its contract. Assumes nothing.
+-- `palthengi::palthengi_tick` meets its contract.
 use borrow.Author.Needs.{needs}
 use Rattle.tick_refusal.proofs.Told.{told-is}
 use Rattle.palthengi.proofs.palthengi_tick.Statement.{statement}

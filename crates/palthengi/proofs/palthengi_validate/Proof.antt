@@ -1,4 +1,4 @@
--- `palthengi::palthengi_validate` meets its contract. Assumes nothing.
+-- `palthengi::palthengi_validate` meets its contract.
 use mathlib.Core.Path.{ap, _∙_}
 use borrow.Author.Needs.{needs}
 use Rattle.tick_refusal.specs.Refusal.{ofValidated}

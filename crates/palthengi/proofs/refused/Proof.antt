@@ -1,4 +1,4 @@
--- `palthengi::refused` meets its contract. Assumes nothing.
+-- `palthengi::refused` meets its contract.
 use Rattle.palthengi.specs.Compilation.{noCounts}
 use borrow.Author.Needs.{needs}
 use Rattle.palthengi.proofs.refused.Statement.{statement}

@@ -1,5 +1,5 @@
 -- `refusal::spell` meets its contract: heading, name and sentence stand one after the other, in at most 106 bytes.
--- Assumes nothing.
+--
 use mathlib.Core.Path.{_≡_, sym, _∙_, ap}
 use mathlib.Core.List.{_++_}
 use Prim.Native.Nat.{ℕ, _≤_}

@@ -1,5 +1,5 @@
 -- `refusal::words_of` meets its contract, case by case.
--- Assumes nothing.
+--
 use borrow.Author.Needs.{needs}
 use Rattle.refusal.proofs.words_of.Statement.{statement}
 use Rattle.refusal.proofs.words_of.Tie as tie

@@ -1,5 +1,4 @@
 -- `refusal::write_heading` meets its contract: the five parts stand one after the other.
--- Assumes nothing.
 use mathlib.Core.Path.{_∙_, ap}
 use mathlib.Core.List.{List, _++_}
 use Prim.Native.Nat.{ℕ}
@@ -41,23 +40,19 @@ same-length c = search needs
 returns : tie.Need-returns
 unfolding heading
 returns c =
-    let start = c .before .before .before .before .before .before .before .before .before .before .before .before .before .before .before .before .before .before .before .before .before .before .before .before .args in
-    let a = c .before .before .before .before .before .before .before .before .before .before .before .before .before .before .before .before .before .before .before .before .append .ensures in
-    let b = c .before .before .before .before .before .before .before .before .before .before .before .before .before .before .before .before .append-decimal .ensures in
-    let d = c .before .before .before .before .before .before .before .before .before .before .before .append2 .ensures in
-    let e = c .before .before .before .before .before .before .before .append-decimal2 .ensures in
-    let f = c .before .before .append3 .ensures in (
-      f .text
-          ∙ ap (λ (l : List ℕ). l ++ ascii ": ")
-          (e .0
-          ∙ ap (λ (l : List ℕ). l ++ decimal (start .place))
-          (d .text
-          ∙ ap (λ (l : List ℕ). l ++ ascii " at ")
-          (b .0
-          ∙ ap (λ (l : List ℕ). l ++ decimal (start .number))
-          (a .text)))),
-      omega arith,
-    )
+    let f = c .before .before .append3 .ensures in
+    let placed = c .before .before .before .before .before in
+    let e = placed .before .before .append-decimal2 .ensures in
+    let parted = placed .before .before .before .before .before .before in
+    let d = parted .append2 .ensures in
+    let numbered = parted .before .before .before .before .before in
+    let b = numbered .append-decimal .ensures in
+    let refused = numbered .before .before .before .before in
+    let a = refused .append .ensures in
+    let s = refused .before .before .before .before .args in
+    let front = b .0 .text ∙ ap (λ (l : List ℕ). l ++ decimal (s .number)) (a .text) in
+    let back = e .0 .text ∙ ap (λ (l : List ℕ). l ++ decimal (s .place)) (d .text ∙ ap (λ (l : List ℕ). l ++ ascii " at ") front) in
+    (f .text ∙ ap (λ (l : List ℕ). l ++ ascii ": ") back, omega arith)
 
 pub write-heading-spec : {M : Type 1} → statement M
 write-heading-spec =

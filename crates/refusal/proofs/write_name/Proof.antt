@@ -1,5 +1,5 @@
 -- `refusal::write_name` meets its contract: the name out of the table, which lies within its 23 bytes.
--- Assumes nothing.
+--
 use mathlib.Core.Path.{_≡_, sym, _∙_, ap}
 use mathlib.Core.List.{List, _++_}
 use Prim.Native.Nat.{ℕ, _≤_}

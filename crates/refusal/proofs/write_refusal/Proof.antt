@@ -1,5 +1,5 @@
 -- `refusal::write_refusal` meets its contract: the line that was spelled.
--- Assumes nothing.
+--
 use denote.Ref.{now}
 use mathlib.Core.Path.{sym, _∙_, ap}
 use mathlib.Core.List.{List}

@@ -1,5 +1,5 @@
 -- `replay::cases_in` is safe and ends: a line or a case has been passed.
--- Assumes nothing.
+--
 use Prim.Native.Nat.{_-_}
 use borrow.Author.Needs.{needs}
 use lib.ListN.{length}

@@ -1,5 +1,5 @@
 -- `replay::count_lines` is safe and ends: there are no more lines than bytes.
--- Assumes nothing.
+--
 use Prim.Native.Nat.{_-_, _≤_}
 use borrow.Author.Needs.{needs}
 use lib.ListN.{length}

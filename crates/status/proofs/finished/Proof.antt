@@ -1,4 +1,4 @@
--- `status::finished` meets its contract. Assumes nothing.
+-- `status::finished` meets its contract.
 use Rattle.status.specs.Bits.{finishedIn}
 use borrow.Author.Needs.{needs}
 use Rattle.status.proofs.finished.Statement.{statement}

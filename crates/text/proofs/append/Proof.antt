@@ -1,5 +1,5 @@
 -- `text::append` meets its contract: after i turns the first i bytes of the part are in the line.
--- Assumes nothing.
+--
 use Prim.Native.Nat.{_-_}
 use lib.ListN.{length}
 use native.Mathlib.Omega.{arith}

@@ -1,12 +1,8 @@
 -- `text::append_decimal` meets its contract: the digits that `io::decimal` writes are the number's, at most 20.
--- Assumes nothing.
-use denote.Ref.{now}
-use mathlib.Core.Path.{_∙_, ap}
-use mathlib.Core.List.{List, _++_}
-use Prim.Native.Nat.{ℕ}
+use mathlib.Core.Path.{_∙_}
 use native.Mathlib.Omega.{arith}
-use lib.ListN.{take}
 use Rattle.text.proofs.Decimals.{decimal-is, few-digits}
+use Rattle.text.proofs.Parts.{same-part}
 use borrow.Author.Needs.{needs}
 use Rattle.text.proofs.append_decimal.Statement.{statement}
 use Rattle.text.proofs.append_decimal.Tie as tie
@@ -31,12 +27,12 @@ same-length c = search needs
 
 returns : tie.Need-returns
 returns c =
-    let d = c .before .before .before .before .before .decimal .ensures in
-    let a = c .before .before .append .ensures in
-    let few = few-digits _ _ (omega arith) (d .1 .0) in (
-      a .text ∙ ap (λ (p : List ℕ). take (c .before .before .before .before .before .before .before .before .args .at) (now (c .before .before .before .before .before .before .before .before .args .line)) ++ p) (d .1 .1 ∙ decimal-is _ (c .before .before .before .before .before .before .before .before .args .number) (omega arith) (d .1 .0)),
-      omega (arith, a .next, d .0 .1),
-    )
+    let appended = c .before .before .append .ensures in
+    let read = c .before .before .before .before .before in
+    let d = read .decimal .ensures in
+    let number = read .before .before .before .args .number in
+    let few = few-digits _ _ (omega arith) (d .1 .0) in
+    (same-part (d .1 .1 ∙ decimal-is _ number (omega arith) (d .1 .0)) appended, omega (arith, appended .next, d .0 .1))
 
 pub append-decimal-spec : {M : Type 1} → statement M
 append-decimal-spec =

@@ -1,5 +1,5 @@
 -- `text::put_line` meets its contract: the whole line where there is room for it, and nothing where there is not.
--- Assumes nothing.
+--
 use denote.Ref.{now}
 use mathlib.Core.Path.{refl}
 use native.Mathlib.Omega.{arith}

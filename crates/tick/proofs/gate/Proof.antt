@@ -1,4 +1,4 @@
--- `tick::gate` meets its contract. Assumes nothing.
+-- `tick::gate` meets its contract.
 use mathlib.Core.Path.{_≡_, refl, sym, _∙_}
 use mathlib.Core.Bool.{true}
 use native.Mathlib.Omega.{arith}

@@ -1,4 +1,4 @@
--- `tick::tick` meets its contract. Assumes nothing.
+-- `tick::tick` meets its contract.
 use mathlib.Core.Path.{sym, _∙_}
 use borrow.Author.Needs.{needs}
 use Rattle.tick_lane.proofs.LaneLaws.{after-refused, after-accepted}

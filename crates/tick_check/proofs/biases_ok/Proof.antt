@@ -1,4 +1,4 @@
--- `circuit::biases_ok` meets its contract. Assumes nothing.
+-- `tick_check::biases_ok` meets its contract.
 use mathlib.Core.Path.{_≡_}
 use Prim.Native.Nat.{_+_, _-_, _≤_}
 use native.Mathlib.Omega.{arith}

@@ -1,4 +1,4 @@
--- `circuit::coefs_ok` meets its contract. Assumes nothing.
+-- `tick_check::coefs_ok` meets its contract.
 use mathlib.Core.Path.{_≡_}
 use Prim.Native.Nat.{_-_, _≤_}
 use native.Mathlib.Omega.{arith}

@@ -1,4 +1,4 @@
--- `circuit::contents_ok` meets its contract. Assumes nothing.
+-- `tick_check::contents_ok` meets its contract.
 use borrow.Author.Needs.{needs}
 use Rattle.tick_check.proofs.Passes.{passes-are}
 use Rattle.tick_check.proofs.contents_ok.Statement.{statement}

@@ -1,4 +1,4 @@
--- `circuit::floats_ok` meets its contract. Assumes nothing.
+-- `tick_check::floats_ok` meets its contract.
 use mathlib.Core.Bool.{_&&_}
 use borrow.Author.Needs.{needs}
 use Rattle.tick_check.specs.Parts.{floatsOk}

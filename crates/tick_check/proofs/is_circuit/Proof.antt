@@ -1,4 +1,4 @@
--- `circuit::is_circuit` meets its contract. Assumes nothing.
+-- `tick_check::is_circuit` meets its contract.
 use mathlib.Core.Path.{sym, _∙_}
 use native.Mathlib.Omega.{arith}
 use borrow.Author.Needs.{needs}

@@ -1,4 +1,4 @@
--- `circuit::lists_ok` meets its contract. Assumes nothing.
+-- `tick_check::lists_ok` meets its contract.
 use mathlib.Core.Bool.{_&&_}
 use borrow.Author.Needs.{needs}
 use Rattle.tick_check.specs.Parts.{listsOk}

@@ -1,4 +1,4 @@
--- `circuit::once_ok` meets its contract. Assumes nothing.
+-- `tick_check::once_ok` meets its contract.
 use mathlib.Core.Path.{_≡_, sym, ap, _∙_}
 use Prim.Native.Nat.{ℕ, _+_, _-_, _≤_, _<_}
 use native.Mathlib.Omega.{arith}

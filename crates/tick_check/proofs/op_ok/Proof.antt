@@ -1,4 +1,4 @@
--- `circuit::op_ok` meets its contract. Assumes nothing.
+-- `tick_check::op_ok` meets its contract.
 use borrow.Author.Needs.{needs}
 use borrow.Author.Tests.{not-true, not-false}
 use Rattle.tick_check.proofs.Passes.{op-of-neither, op-left, op-gate}

@@ -1,4 +1,4 @@
--- `circuit::pairs_rise` meets its contract. Assumes nothing.
+-- `tick_check::pairs_rise` meets its contract.
 use mathlib.Core.Path.{_≡_, refl}
 use Prim.Native.Nat.{_+_, _-_, _≤_}
 use native.Mathlib.Omega.{arith}

@@ -1,4 +1,4 @@
--- `circuit::range_ok` meets its contract. Assumes nothing.
+-- `tick_check::range_ok` meets its contract.
 use native.Mathlib.Omega.{arith}
 use borrow.Author.Needs.{needs}
 use Rattle.tick_check.proofs.Rising.{range-outside, range-inside}

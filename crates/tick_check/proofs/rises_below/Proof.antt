@@ -1,4 +1,4 @@
--- `circuit::rises_below` meets its contract. Assumes nothing.
+-- `tick_check::rises_below` meets its contract.
 use native.Mathlib.Omega.{arith}
 use borrow.Author.Needs.{needs}
 use Rattle.tick_check.proofs.Rising.{rises-none, rises-high, rises-one, rises-is}

@@ -1,4 +1,4 @@
--- `circuit::sizes_ok` meets its contract. Assumes nothing.
+-- `tick_check::sizes_ok` meets its contract.
 use native.Mathlib.Omega.{arith}
 use borrow.Author.Needs.{needs}
 use Rattle.tick_check.proofs.Whole.{sizes-1, sizes-2, sizes-3, sizes-4, sizes-5}

@@ -1,4 +1,4 @@
--- `circuit::slot` meets its contract. Assumes nothing.
+-- `tick_check::slot` meets its contract.
 use native.Mathlib.Omega.{arith}
 use borrow.Author.Tests.{lt-ltb, le-ltb}
 use Rattle.tick_check.proofs.slot.Statement.{statement}

@@ -1,4 +1,4 @@
--- `lane::finish` meets its contract. Assumes nothing.
+-- `tick_lane::finish` meets its contract.
 use mathlib.Core.Path.{refl}
 use native.Mathlib.Omega.{arith}
 use borrow.Author.Needs.{needs}

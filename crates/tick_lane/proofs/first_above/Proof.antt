@@ -1,4 +1,4 @@
--- `lane::first_above` meets its contract. Assumes nothing.
+-- `tick_lane::first_above` meets its contract.
 use mathlib.Core.Path.{_≡_}
 use Prim.Native.Nat.{_+_, _-_, _≤_}
 use native.Mathlib.Omega.{arith}

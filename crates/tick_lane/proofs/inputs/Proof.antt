@@ -1,4 +1,4 @@
--- `lane::inputs` meets its contract. Assumes nothing.
+-- `tick_lane::inputs` meets its contract.
 use mathlib.Core.Path.{_≡_, refl, sym, ap, _∙_}
 use mathlib.Core.Bool.{Bool}
 use Prim.Native.Nat.{ℕ}

@@ -1,4 +1,4 @@
--- `lane::lane` meets its contract. Assumes nothing.
+-- `tick_lane::lane` meets its contract.
 use mathlib.Core.Path.{refl, ap, _∙_}
 use native.Mathlib.Omega.{arith}
 use borrow.Author.Needs.{needs}

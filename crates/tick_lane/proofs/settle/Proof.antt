@@ -1,4 +1,4 @@
--- `lane::settle` meets its contract. Assumes nothing.
+-- `tick_lane::settle` meets its contract.
 use mathlib.Core.Path.{_≡_, ap}
 use Prim.Native.Nat.{ℕ, _-_}
 use native.Mathlib.Omega.{arith}

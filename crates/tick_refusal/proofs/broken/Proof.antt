@@ -1,4 +1,4 @@
--- `tick_refusal::broken` meets its contract. Assumes nothing.
+-- `tick_refusal::broken` meets its contract.
 use mathlib.Core.Path.{ap}
 use borrow.Author.Needs.{needs}
 use Rattle.tick_refusal.specs.declared.Refusal.{Refusal}

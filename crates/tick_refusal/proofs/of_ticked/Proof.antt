@@ -1,4 +1,4 @@
--- `tick_refusal::of_ticked` meets its contract. Assumes nothing.
+-- `tick_refusal::of_ticked` meets its contract.
 use mathlib.Core.Path.{sym, ap, _∙_}
 use borrow.Author.Needs.{needs}
 use Rattle.tick_refusal.specs.Refusal.{ofTicked}

@@ -1,4 +1,4 @@
--- `tick_refusal::of_validated` meets its contract. Assumes nothing.
+-- `tick_refusal::of_validated` meets its contract.
 use mathlib.Core.Path.{sym, ap}
 use borrow.Author.Needs.{needs}
 use Rattle.tick_refusal.specs.Refusal.{ofValidated}

@@ -1,4 +1,4 @@
--- `report::count` meets its contract. Assumes nothing.
+-- `tick_report::count` meets its contract.
 use mathlib.Core.Path.{_≡_}
 use mathlib.Core.Logic.{⊎-elim}
 use Prim.Native.Nat.{_+_, _-_, _≤_}

@@ -1,4 +1,4 @@
--- `report::halts` meets its contract. Assumes nothing.
+-- `tick_report::halts` meets its contract.
 use native.Mathlib.Omega.{arith}
 use borrow.Author.Needs.{needs}
 use Rattle.tick_report.proofs.Picked.{halts-short, halts-done}

@@ -1,4 +1,4 @@
--- `report::mark` meets its contract. Assumes nothing.
+-- `tick_report::mark` meets its contract.
 use mathlib.Core.Path.{sym}
 use native.Mathlib.Omega.{arith}
 use borrow.Author.Needs.{needs}

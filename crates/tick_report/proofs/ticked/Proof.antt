@@ -1,4 +1,4 @@
--- `report::ticked` meets its contract. Assumes nothing.
+-- `tick_report::ticked` meets its contract.
 use native.Mathlib.Omega.{arith}
 use borrow.Author.Needs.{needs}
 use borrow.Author.Tests.{not-true, not-false, leb-true}

@@ -1,4 +1,4 @@
--- `report::write_marks` meets its contract. Assumes nothing.
+-- `tick_report::write_marks` meets its contract.
 use mathlib.Core.Logic.{⊎-elim}
 use Prim.Native.Nat.{_-_, _≤_}
 use native.Mathlib.Omega.{arith}

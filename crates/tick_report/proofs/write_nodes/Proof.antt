@@ -1,4 +1,4 @@
--- `report::write_nodes` meets its contract. Assumes nothing.
+-- `tick_report::write_nodes` meets its contract.
 use mathlib.Core.Path.{sym}
 use mathlib.Core.Logic.{⊎-elim}
 use Prim.Native.Nat.{_-_, _≤_}

@@ -1,4 +1,4 @@
--- `verdict::bit` meets its contract. Assumes nothing.
+-- `tick_verdict::bit` meets its contract.
 use mathlib.Core.Path.{sym, _∙_}
 use borrow.Author.Needs.{needs}
 use borrow.Author.Tests.{not-true, not-false}

@@ -1,4 +1,4 @@
--- `verdict::cursor` meets its contract. Assumes nothing.
+-- `tick_verdict::cursor` meets its contract.
 use mathlib.Core.Path.{sym, _∙_}
 use borrow.Author.Needs.{needs}
 use borrow.Author.Tests.{not-true, not-false}

@@ -1,4 +1,4 @@
--- `verdict::low` meets its contract. Assumes nothing.
+-- `tick_verdict::low` meets its contract.
 use borrow.Author.Tests.{not-true, not-false}
 use lib.Ieee.{binary32, le, ofBits}
 use Rattle.tick_verdict.specs.Verdict.{low}

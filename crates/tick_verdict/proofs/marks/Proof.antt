@@ -1,4 +1,4 @@
--- `verdict::marks` meets its contract. Assumes nothing.
+-- `tick_verdict::marks` meets its contract.
 use borrow.Author.Needs.{needs}
 use Rattle.tick_verdict.specs.Verdict.{marks}
 use Rattle.tick_verdict.proofs.First.{or-stop, or-go}

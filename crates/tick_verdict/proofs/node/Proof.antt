@@ -1,4 +1,4 @@
--- `verdict::node` meets its contract. Assumes nothing.
+-- `tick_verdict::node` meets its contract.
 use borrow.Author.Needs.{needs}
 use Rattle.tick_verdict.specs.Verdict.{nodeAt}
 use Rattle.tick_verdict.proofs.First.{or-stop, or-go}

@@ -1,4 +1,4 @@
--- `verdict::one_hot` meets its contract. Assumes nothing.
+-- `tick_verdict::one_hot` meets its contract.
 use Rattle.tick_verdict.specs.Verdict.{oneHot}
 use Rattle.tick_verdict.proofs.one_hot.Statement.{statement}
 use Rattle.tick_verdict.proofs.one_hot.Tie as tie

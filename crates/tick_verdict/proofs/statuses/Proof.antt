@@ -1,4 +1,4 @@
--- `verdict::statuses` meets its contract. Assumes nothing.
+-- `tick_verdict::statuses` meets its contract.
 use borrow.Author.Needs.{needs}
 use Rattle.tick_verdict.specs.Verdict.{statuses}
 use Rattle.tick_verdict.proofs.First.{or-stop, or-go}

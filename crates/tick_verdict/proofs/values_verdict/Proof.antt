@@ -1,4 +1,4 @@
--- `verdict::values_verdict` meets its contract. Assumes nothing.
+-- `tick_verdict::values_verdict` meets its contract.
 use borrow.Author.Needs.{needs}
 use Rattle.tick_verdict.specs.Verdict.{valuesVerdict}
 use Rattle.tick_verdict.proofs.First.{or-stop, or-go}

@@ -1,5 +1,5 @@
--- `kinds::row_of` meets its contract: inside the table the row is that of the definition, and outside it is blank.
--- Assumes nothing.
+-- `tree_kinds::row_of` meets its contract: inside the table the row is that of the definition, and outside it is blank.
+--
 use mathlib.Core.Path.{ap, sym}
 use native.Mathlib.Omega.{arith}
 use borrow.Author.Needs.{needs}

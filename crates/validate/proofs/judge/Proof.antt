@@ -1,4 +1,4 @@
--- `validate::judge` meets its contract. Assumes nothing.
+-- `validate::judge` meets its contract.
 use mathlib.Core.Path.{_≡_, ap, _∙_}
 use Prim.Native.Nat.{ℕ, _-_}
 use native.Mathlib.Omega.{arith}

@@ -1,4 +1,4 @@
--- `validate::validate` meets its contract. Assumes nothing.
+-- `validate::validate` meets its contract.
 use mathlib.Core.Path.{refl, sym, _∙_}
 use native.Mathlib.Omega.{arith}
 use borrow.Author.Needs.{needs}
@@ -6,7 +6,8 @@ use borrow.Author.Tests.{not-true, not-false}
 use lib.ListN.{length-replicate}
 use Rattle.exact.specs.Whole.{zero32}
 use Rattle.tick_check.specs.Check.{stored}
-use Rattle.tick_check.proofs.Checked.{Checked, checked}
+use Rattle.tick_check.proofs.Checked.{checked}
+use Rattle.tick_check.specs.Checked.{Checked}
 use Rattle.validate.proofs.Laws.{valid-1, valid-2, valid-3}
 use Rattle.validate.proofs.validate.Statement.{statement}
 use Rattle.validate.proofs.validate.Tie as tie

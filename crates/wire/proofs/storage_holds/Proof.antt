@@ -1,4 +1,4 @@
--- `wire::storage_holds` meets its contract. Assumes nothing.
+-- `wire::storage_holds` meets its contract.
 use Rattle.wire.specs.Storage.{storageHolds}
 use borrow.Author.Needs.{needs}
 use Rattle.wire.proofs.storage_holds.Statement.{statement}

@@ -1,4 +1,4 @@
--- `wirec::answer_of` meets its contract. Assumes nothing.
+-- `wire_c::answer_of` meets its contract.
 use borrow.Author.Needs.{needs}
 use Rattle.wire_c.proofs.answer_of.Statement.{statement}
 use Rattle.wire_c.proofs.answer_of.Tie as tie

@@ -1,4 +1,4 @@
--- `wirec::ended_of` meets its contract. Assumes nothing.
+-- `wire_c::ended_of` meets its contract.
 use borrow.Author.Needs.{needs}
 use Rattle.wire_c.proofs.ended_of.Statement.{statement}
 use Rattle.wire_c.proofs.ended_of.Tie as tie

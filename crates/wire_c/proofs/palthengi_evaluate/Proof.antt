@@ -1,4 +1,4 @@
--- `wirec::palthengi_evaluate` meets its contract. Assumes nothing.
+-- `wire_c::palthengi_evaluate` meets its contract.
 use mathlib.Core.Path.{_∙_, ap}
 use Rattle.wire_c.specs.Answers.{endedOf}
 use borrow.Author.Needs.{needs}

@@ -1,4 +1,4 @@
--- `wirec::palthengi_layers` meets its contract. Assumes nothing.
+-- `wire_c::palthengi_layers` meets its contract.
 use mathlib.Core.Path.{_∙_, ap, sym}
 use Rattle.wire_layers.specs.Layers.{layeredNumber}
 use borrow.Author.Needs.{needs}

@@ -1,4 +1,4 @@
--- `eval::evaluate` meets its contract. Assumes nothing.
+-- `wire_eval::evaluate` meets its contract.
 use native.Mathlib.Omega.{arith}
 use Rattle.wire_eval.proofs.Running.{bad-high, good-before, ends-short, ends-bad, ends-done}
 use borrow.Author.Needs.{needs}

@@ -1,4 +1,4 @@
--- `eval::first_bad` meets its contract. Assumes nothing.
+-- `wire_eval::first_bad` meets its contract.
 use borrow.Author.Tests.{not-true, not-false}
 use Rattle.wire_eval.specs.Evaluation.{firstFalse, firstBad}
 use Rattle.wire_eval.proofs.Running.{canValue, bad-start, bad-next, bad-here, bad-end}

@@ -1,4 +1,4 @@
--- `eval::op_value` meets its contract. Assumes nothing.
+-- `wire_eval::op_value` meets its contract.
 use Rattle.wire_eval.proofs.Valuing.{value-affine, value-neither, no-left, no-gate, value-reglu}
 use borrow.Author.Needs.{needs}
 use Rattle.wire_eval.proofs.op_value.Statement.{statement}

@@ -1,4 +1,4 @@
--- `eval::value` meets its contract. Assumes nothing.
+-- `wire_eval::value` meets its contract.
 use mathlib.Core.Path.{_∙_, sym}
 use Rattle.wire_read.proofs.Reading.{may-read}
 use Rattle.wire_eval.proofs.Valuing.{value-there, value-short}

@@ -1,10 +1,10 @@
--- `layers::clear` meets its contract. Assumes nothing.
+-- `wire_layers::clear` meets its contract.
 use mathlib.Core.List.{_++_}
 use lib.ListN.{replicate, drop}
 use borrow.Author.Fill.{fill-none, fill-more}
 use native.Mathlib.Omega.{arith}
 use mathlib.Core.Path.{_≡_, refl, _∙_}
-use Prim.Native.Nat.{_-_, _+_, _≤_}
+use Prim.Native.Nat.{_-_, _≤_}
 use lib.ListN.{length, length-set}
 use Rattle.wire_layers.proofs.clear.Statement.{statement}
 use Rattle.wire_layers.proofs.clear.Tie as tie

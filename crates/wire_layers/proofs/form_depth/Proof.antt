@@ -1,4 +1,4 @@
--- `layers::form_depth` meets its contract. Assumes nothing.
+-- `wire_layers::form_depth` meets its contract.
 use Rattle.wire_layers.proofs.Deep.{form-depth}
 use borrow.Author.Needs.{needs}
 use Rattle.wire_layers.proofs.form_depth.Statement.{statement}

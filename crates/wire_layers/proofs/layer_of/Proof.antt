@@ -1,4 +1,4 @@
--- `layers::layer_of` meets its contract. Assumes nothing.
+-- `wire_layers::layer_of` meets its contract.
 use native.Mathlib.Omega.{arith}
 use Rattle.wire_layers.proofs.Deep.{layer-there, layer-past}
 use borrow.Author.Needs.{needs}

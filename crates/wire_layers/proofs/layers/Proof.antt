@@ -1,4 +1,4 @@
--- `layers::layers` meets its contract. Assumes nothing.
+-- `wire_layers::layers` meets its contract.
 use Rattle.wire_read.specs.Reading.{storedOp}
 use Rattle.wire_layers.proofs.Deep.{So, so-none, so-more, lays-short, lays-done}
 use native.Mathlib.Omega.{arith}

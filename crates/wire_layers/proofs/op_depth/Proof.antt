@@ -1,4 +1,4 @@
--- `layers::op_depth` meets its contract. Assumes nothing.
+-- `wire_layers::op_depth` meets its contract.
 use native.Mathlib.Omega.{arith}
 use Rattle.wire_layers.proofs.Deep.{depth-affine, depth-reglu, depth-neither}
 use borrow.Author.Needs.{needs}

@@ -1,4 +1,4 @@
--- `pool::form_at` meets its contract. Assumes nothing.
+-- `wire_pool::form_at` meets its contract.
 use borrow.Author.Needs.{needs}
 use Rattle.wire_pool.proofs.form_at.Statement.{statement}
 use Rattle.wire_pool.proofs.form_at.Tie as tie

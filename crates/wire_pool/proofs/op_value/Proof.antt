@@ -1,4 +1,4 @@
--- `pool::op_value` meets its contract. Assumes nothing.
+-- `wire_pool::op_value` meets its contract.
 use mathlib.Core.Path.{_∙_}
 use native.Mathlib.Omega.{arith}
 use Rattle.wire_pool.proofs.Sums.{op-affine, op-reglu}

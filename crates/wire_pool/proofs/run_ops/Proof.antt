@@ -1,4 +1,4 @@
--- `pool::run_ops` meets its contract. Assumes nothing.
+-- `wire_pool::run_ops` meets its contract.
 use native.Mathlib.Omega.{arith}
 use mathlib.Core.Path.{_≡_, refl}
 use Prim.Native.Nat.{_-_, _≤_}

@@ -1,4 +1,4 @@
--- `pool::sum` meets its contract. Assumes nothing.
+-- `wire_pool::sum` meets its contract.
 use native.Mathlib.Omega.{arith}
 use mathlib.Core.Path.{_≡_, refl}
 use Prim.Native.Nat.{_-_, _≤_}

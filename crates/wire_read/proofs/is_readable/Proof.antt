@@ -1,4 +1,4 @@
--- `reading::is_readable` meets its contract. Assumes nothing.
+-- `wire_read::is_readable` meets its contract.
 use Rattle.wire_read.proofs.Reading.{past-wires, past-coefs, past-table, reads-one, reads-all}
 use Rattle.lists.specs.All.{all}
 use Rattle.lists.proofs.Tests.{all-none, all-more}

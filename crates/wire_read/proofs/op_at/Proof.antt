@@ -1,4 +1,4 @@
--- `reading::op_at` meets its contract. Assumes nothing.
+-- `wire_read::op_at` meets its contract.
 use native.Mathlib.Omega.{arith}
 use mathlib.Core.Path.{_∙_, ap}
 use Rattle.wire.specs.declared.Op.the-variants.{Affine, Reglu}

@@ -1,4 +1,4 @@
--- `reading::op_is_readable` meets its contract. Assumes nothing.
+-- `wire_read::op_is_readable` meets its contract.
 use mathlib.Core.Path.{_∙_, sym}
 use borrow.Author.Tests.{not-true, not-false}
 use Rattle.wire_read.proofs.Reading.{reads-affine, reads-neither, left-fails, left-reads}

@@ -83,7 +83,7 @@ unfoldable pub numbers : P.Form → List ℕ
 numbers f = (f .bp - f .bn) ∷ (f .bn - f .bp) ∷ termNumbers (f .terms)
 
 unfoldable pub constructed : Row → Row
-unfolding kindOf slotEnd cellEnd construct build opForms outputForms B.not′ B.minus B.push B.relu B.isZeroAt B.isZero B.step B.atLeastAt B.atLeast B.andAt B.and B.orAt B.or L.inverted L.inverteds L.forced L.fixedT L.gates L.clears L.stops L.picks L.total L.lowerSeq L.lower L.upStep L.up L.spread L.childs L.nextCur L.down L.flags P.keep P.insertAt P.insert P.merge P.flip P.times P.constant P.wire′ P.offset P.negate P.plus P.scaled P.empty P.knownAt P.known termNumbers numbers
+unfolding kindOf slotEnd cellEnd construct build opForms outputForms B.not′ B.minus B.push B.relu B.isZeroAt B.isZero B.step B.atLeastAt B.atLeast B.andAt B.and B.orAt B.or L.inverted L.inverteds L.forced L.fixedT L.gates L.clears L.stops L.picks L.total L.lowerSeq L.lower L.upStep L.up L.spread L.children L.nextCur L.down L.flags P.keep P.insertAt P.insert P.merge P.flip P.times P.constant P.wire′ P.offset P.negate P.plus P.scaled P.empty P.knownAt P.known termNumbers numbers
 constructed r =
     let ns = flats (r .kinds) (r .counts) in
     let x = construct pairs ns in

@@ -1,5 +1,5 @@
--- `merge::merge_terms` meets its contract. The loop's invariant: whatever the rest of the merge, put from here on, leaves, the whole merge leaves from the start.
--- Assumes nothing.
+-- `arena_terms::merge::merge_terms` meets its contract. The loop's invariant: whatever the rest of the merge, put from here on, leaves, the whole merge leaves from the start.
+--
 use native.Mathlib.Omega.{arith}
 use mathlib.Core.Path.{_≡_, refl}
 use mathlib.Core.List.{List}

@@ -1,4 +1,4 @@
--- `merge::scale_terms` meets its contract, by the same invariant as the merge. Assumes nothing.
+-- `arena_terms::merge::scale_terms` meets its contract, by the same invariant as the merge.
 use native.Mathlib.Omega.{arith}
 use mathlib.Core.Path.{_≡_, refl}
 use mathlib.Core.List.{List}

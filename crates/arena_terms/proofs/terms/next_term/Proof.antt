@@ -1,11 +1,9 @@
--- `sums::next_term` meets its contract. Assumes nothing.
+-- `arena_terms::terms::next_term` meets its contract.
 use native.Mathlib.Omega.{arith}
 use Rattle.arena_terms.proofs.First.{only-i, only-j, from-i, from-j, from-both}
 use borrow.Author.Needs.{needs}
 use Rattle.arena_terms.proofs.terms.next_term.Statement.{statement}
 use Rattle.arena_terms.proofs.terms.next_term.Tie as tie
-use Rattle.arena_terms.proofs.terms.next_term.Reads as reads
-use Rattle.arena_terms.proofs.terms.next_term.Lts as lts
 
 mul-t17 : tie.Need-mul-t17
 mul-t17 c = search needs

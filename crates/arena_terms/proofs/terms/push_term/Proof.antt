@@ -1,10 +1,8 @@
--- `sums::push_term` meets its contract. Assumes nothing.
+-- `arena_terms::terms::push_term` meets its contract.
 use Rattle.arena_terms.proofs.Put.{put-zero, put-one}
 use borrow.Author.Needs.{needs}
 use Rattle.arena_terms.proofs.terms.push_term.Statement.{statement}
 use Rattle.arena_terms.proofs.terms.push_term.Tie as tie
-use Rattle.arena_terms.proofs.terms.push_term.Reads as reads
-use Rattle.arena_terms.proofs.terms.push_term.Lts as lts
 
 returns : tie.Need-returns
 returns c = put-zero _ _ _ _ (c .if1 .taken)

@@ -1,4 +1,4 @@
--- `builder::Bit::constant` meets its contract. Assumes nothing.
+-- `builder::Bit::constant` meets its contract.
 use borrow.Author.Needs.{needs}
 use Rattle.builder.proofs.Bit.constant.Statement.{statement}
 use Rattle.builder.proofs.Bit.constant.Tie as tie

@@ -1,5 +1,5 @@
--- `listrows::first_of` meets its contract: all of the list where it is no longer.
--- Assumes nothing.
+-- `list_rows::row::first_of` meets its contract: all of the list where it is no longer.
+--
 use denote.Ref.{now}
 use mathlib.Core.Path.{sym}
 use native.Mathlib.Omega.{arith}

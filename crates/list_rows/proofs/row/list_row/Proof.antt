@@ -1,5 +1,5 @@
--- `listrows::list_row` meets its contract: the line or the refusal, by what the tick told.
--- Assumes nothing.
+-- `list_rows::row::list_row` meets its contract: the line or the refusal, by what the tick told.
+--
 use denote.Ref.{now}
 use Rattle.tick_check.specs.Check.{stored}
 use Rattle.list_rows.specs.Left.{kept}

@@ -1,5 +1,5 @@
--- `listrows::show_tick` meets its contract: the line of the first so many.
--- Assumes nothing.
+-- `list_rows::row::show_tick` meets its contract: the line of the first so many.
+--
 use denote.Ref.{now}
 use mathlib.Core.Path.{_∙_}
 use lib.ListN.{length}

@@ -1,5 +1,5 @@
--- `listrows::list_rows` meets its contract: what is printed so far, then the rest, is what there is to print.
--- Assumes nothing.
+-- `list_rows::rows::list_rows` meets its contract: what is printed so far, then the rest, is what there is to print.
+--
 use Prim.Native.Nat.{_-_, _<_}
 use mathlib.Core.Path.{_≡_, refl}
 use native.Mathlib.Omega.{arith}

@@ -1,5 +1,5 @@
--- `listrows::list_step` meets its contract: one case a way through.
--- Assumes nothing.
+-- `list_rows::rows::list_step` meets its contract: one case a way through.
+--
 use denote.Ref.{now}
 use Rattle.tick_check.specs.Check.{stored}
 use Rattle.list_rows.specs.Left.{kept}

@@ -1,5 +1,5 @@
--- `listrows::rest_of` meets its contract: nothing past the end.
--- Assumes nothing.
+-- `list_rows::rows::rest_of` meets its contract: nothing past the end.
+--
 use Prim.Native.Nat.{_-_}
 use denote.Ref.{now}
 use mathlib.Core.Path.{sym}

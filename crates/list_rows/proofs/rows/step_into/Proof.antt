@@ -1,5 +1,5 @@
--- `listrows::step_into` meets its contract: the rest of the buffer is lent and comes back.
--- Assumes nothing.
+-- `list_rows::rows::step_into` meets its contract: the rest of the buffer is lent and comes back.
+--
 use Prim.Native.Nat.{_-_}
 use borrow.Rule.Slice.PartMut.{take-put}
 use denote.Ref.{now}

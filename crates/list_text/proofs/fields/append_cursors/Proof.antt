@@ -1,5 +1,4 @@
--- `listing::append_cursors` meets its contract: the first, then the others.
--- Assumes nothing.
+-- `list_text::fields::append_cursors` meets its contract: the first, then the others.
 use Prim.Native.Nat.{ℕ}
 use mathlib.Core.Path.{_∙_, ap}
 use mathlib.Core.List.{List, _++_}
@@ -23,7 +22,11 @@ same-length : tie.Need-same-length
 same-length c = search needs
 
 returns : tie.Need-returns
-returns c = let a = c .before .before .append .ensures in let s = c .before .before .before .before .before .before .before .before .args in (a .text ∙ no-cursors (take (s .at) (now (s .line))) (now (s .cursors)) (c .before .before .before .before .before .if1 .taken), omega (arith, a .next))
+returns c =
+    let a = c .before .before .append .ensures in
+    let tested = c .before .before .before .before .before in
+    let s = tested .before .before .before .args in
+    (a .text ∙ no-cursors (take (s .at) (now (s .line))) (now (s .cursors)) (tested .if1 .taken), omega (arith, a .next))
 
 shared-slice-read-long : tie.Need-shared-slice-read-long
 shared-slice-read-long c = search needs
@@ -41,7 +44,18 @@ same-length-2 : tie.Need-same-length-2
 same-length-2 c = search needs
 
 returns-2 : tie.Need-returns-2
-returns-2 c = let m = c .before .before .append-more .ensures in let d = c .before .before .before .before .before .before .append-decimal .ensures in let s = c .before .before .before .before .before .before .before .before .before .before .before .before .before .args in (m .0 ∙ ap (λ (l : List ℕ). l ++ more (drop 1 (now (s .cursors)))) (d .0 ∙ (λ i. take (s .at) (now (s .line)) ++ decimal (c .before .before .before .before .before .before .before .long .ensures i))) ∙ some-cursors (take (s .at) (now (s .line))) (now (s .cursors)) (omega arith), omega (arith, m .1, d .1))
+returns-2 c =
+    let m = c .before .before .append-more .ensures in
+    let written = c .before .before .before .before .before .before in
+    let d = written .append-decimal .ensures in
+    let long = written .before .long .ensures in
+    let tested = written .before .before in
+    let s = tested .before .before .before .before .before .args in
+    let front = take (s .at) (now (s .line)) in
+    let first = d .0 .text ∙ (λ i. front ++ decimal (long i)) in (
+      m .0 ∙ ap (λ (l : List ℕ). l ++ more (drop 1 (now (s .cursors)))) first ∙ some-cursors front (now (s .cursors)) (omega arith),
+      omega (arith, m .1, d .1),
+    )
 
 pub append-cursors-spec : {M : Type 1} → statement M
 append-cursors-spec =

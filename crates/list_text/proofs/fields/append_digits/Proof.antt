@@ -1,5 +1,5 @@
--- `listing::append_digits` meets its contract: after i turns the first i digits are in the line.
--- Assumes nothing.
+-- `list_text::fields::append_digits` meets its contract: after i turns the first i digits are in the line.
+--
 use Prim.Native.Nat.{_-_}
 use native.Mathlib.Omega.{arith}
 use lib.ListN.{length, length-map}

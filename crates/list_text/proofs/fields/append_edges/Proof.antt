@@ -1,8 +1,8 @@
--- `listing::append_edges` meets its contract: the digits, or a dash.
--- Assumes nothing.
+-- `list_text::fields::append_edges` meets its contract: the digits, or a dash.
+--
 use denote.Ref.{now}
 use lib.ListN.{take, length-map}
-use mathlib.Core.Path.{_∙_, ap}
+use mathlib.Core.Path.{_∙_}
 use native.Mathlib.Omega.{arith}
 use Rattle.list_text.specs.Line.{digit}
 use Rattle.list_text.proofs.Bytes.{some-edges, no-edges}

@@ -1,5 +1,5 @@
--- `listing::append_marks` meets its contract: after i turns the first i marks are in the line.
--- Assumes nothing.
+-- `list_text::fields::append_marks` meets its contract: after i turns the first i marks are in the line.
+--
 use lib.ListN.{getD, length}
 use Prim.Native.Nat.{_-_}
 use native.Mathlib.Omega.{arith}

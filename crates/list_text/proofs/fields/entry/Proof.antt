@@ -1,5 +1,5 @@
--- `listing::entry` meets its contract: past the end it is 0.
--- Assumes nothing.
+-- `list_text::fields::entry` meets its contract: past the end it is 0.
+--
 use denote.Ref.{now}
 use mathlib.Core.Path.{sym}
 use lib.ListN.{List·getD-eq-default}

@@ -1,5 +1,5 @@
--- `listing::mark_of` meets its contract: one answer a test.
--- Assumes nothing.
+-- `list_text::fields::mark_of` meets its contract: one answer a test.
+--
 use borrow.Author.Tests.{eq-eqb, ne-eqb}
 use Rattle.list_text.specs.Line.{mark}
 use Rattle.list_text.proofs.fields.mark_of.Statement.{statement}

@@ -1,5 +1,5 @@
--- `listing::spell` meets its contract: the parts stand one after the other.
--- Assumes nothing.
+-- `list_text::fields::spell` meets its contract: the parts stand one after the other.
+--
 use Prim.Native.Nat.{ℕ}
 use mathlib.Core.Path.{_∙_, ap}
 use mathlib.Core.List.{List, _++_}

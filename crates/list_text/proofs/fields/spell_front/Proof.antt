@@ -1,5 +1,4 @@
--- `listing::spell_front` meets its contract: the parts stand one after the other.
--- Assumes nothing.
+-- `list_text::fields::spell_front` meets its contract: the parts stand one after the other.
 use Prim.Native.Nat.{ℕ}
 use mathlib.Core.Path.{_∙_, ap}
 use mathlib.Core.List.{List, _++_}
@@ -34,7 +33,18 @@ same-length c = search needs
 
 returns : tie.Need-returns
 unfolding front
-returns c = let b = c .before .before .append2 .ensures in let m = c .before .before .before .before .before .before .before .append-marks .ensures in let a = c .before .before .before .before .before .before .before .before .before .before .before .append .ensures in let d = c .before .before .before .before .before .before .before .before .before .before .before .before .before .before .before .before .append-decimal .ensures in let s = c .before .before .before .before .before .before .before .before .before .before .before .before .before .before .before .before .before .before .before .before .before .args in (b .text ∙ ap (λ (l : List ℕ). l ++ ascii " ") (m .0 ∙ ap (λ (l : List ℕ). l ++ marks (now (s .statuses)) (now (s .halts))) (a .text ∙ ap (λ (l : List ℕ). l ++ ascii " ") (d .0))), omega (arith, b .next, m .1, a .next, d .1))
+returns c =
+    let b = c .before .before .append2 .ensures in
+    let marked = c .before .before .before .before .before in
+    let m = marked .before .before .append-marks .ensures in
+    let parted = marked .before .before .before .before .before .before in
+    let a = parted .append .ensures in
+    let numbered = parted .before .before .before .before .before in
+    let d = numbered .append-decimal .ensures in
+    let s = numbered .before .before .before .before .before .args in
+    let number = a .text ∙ ap (λ (l : List ℕ). l ++ ascii " ") (d .0 .text) in
+    let line = m .0 ∙ ap (λ (l : List ℕ). l ++ marks (now (s .statuses)) (now (s .halts))) number in
+    (b .text ∙ ap (λ (l : List ℕ). l ++ ascii " ") line, omega (arith, b .next, m .1, a .next, d .1))
 
 pub spell-front-spec : {M : Type 1} → statement M
 spell-front-spec =

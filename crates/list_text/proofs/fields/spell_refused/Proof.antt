@@ -1,5 +1,4 @@
--- `listing::spell_refused` meets its contract: the parts stand one after the other.
--- Assumes nothing.
+-- `list_text::fields::spell_refused` meets its contract: the parts stand one after the other.
 use Prim.Native.Nat.{ℕ}
 use mathlib.Core.Path.{_∙_, ap}
 use mathlib.Core.List.{List, _++_}
@@ -40,7 +39,20 @@ same-length c = search needs
 
 returns : tie.Need-returns
 unfolding refusedLine
-returns c = let a = c .before .before .before .before .before .before .before .before .before .before .before .before .before .before .before .before .before .before .before .before .append .ensures in let b = c .before .before .before .before .before .before .before .before .before .before .before .before .before .before .before .before .append-decimal .ensures in let d = c .before .before .before .before .before .before .before .before .before .before .before .append2 .ensures in let e = c .before .before .before .before .before .before .before .append-decimal2 .ensures in let f = c .before .before .append3 .ensures in (f .text ∙ ap (λ (l : List ℕ). l ++ ascii "\n") (e .0 ∙ ap (λ (l : List ℕ). l ++ decimal (c .before .before .before .before .before .before .before .before .before .before .before .before .before .before .before .before .before .before .before .before .before .before .before .before .args .place)) (d .text ∙ ap (λ (l : List ℕ). l ++ ascii " at ") (b .0 ∙ ap (λ (l : List ℕ). l ++ decimal (c .before .before .before .before .before .before .before .before .before .before .before .before .before .before .before .before .before .before .before .before .before .before .before .before .args .number)) (a .text)))), omega arith)
+returns c =
+    let f = c .before .before .append3 .ensures in
+    let placed = c .before .before .before .before .before in
+    let e = placed .before .before .append-decimal2 .ensures in
+    let parted = placed .before .before .before .before .before .before in
+    let d = parted .append2 .ensures in
+    let numbered = parted .before .before .before .before .before in
+    let b = numbered .append-decimal .ensures in
+    let refused = numbered .before .before .before .before in
+    let a = refused .append .ensures in
+    let s = refused .before .before .before .before .args in
+    let front = b .0 .text ∙ ap (λ (l : List ℕ). l ++ decimal (s .number)) (a .text) in
+    let back = e .0 .text ∙ ap (λ (l : List ℕ). l ++ decimal (s .place)) (d .text ∙ ap (λ (l : List ℕ). l ++ ascii " at ") front) in
+    (f .text ∙ ap (λ (l : List ℕ). l ++ ascii "\n") back, omega arith)
 
 pub spell-refused-spec : {M : Type 1} → statement M
 spell-refused-spec =

@@ -1,5 +1,5 @@
--- `listing::outer_at` meets its contract: each step carries `outerAt` one stage on, by the tests that led there.
--- Assumes nothing.
+-- `list_text::outer::outer_at` meets its contract: each step carries `outerAt` one stage on, by the tests that led there.
+--
 use mathlib.Core.Path.{_≡_, _∙_, ap, sym}
 use Prim.Native.Nat.{_-_}
 use native.Mathlib.Omega.{arith}

@@ -1,4 +1,4 @@
--- `composites::lowered` meets its contract. Assumes nothing.
+-- `lower_arbitrate::composites::lowered` meets its contract.
 use native.Mathlib.Omega.{arith}
 use Rattle.builder_table.specs.Work.{mem}
 use Rattle.lower_arbitrate.proofs.CompositesMade.{on-success, on-failure}

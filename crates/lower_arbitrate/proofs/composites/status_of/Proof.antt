@@ -1,4 +1,4 @@
--- `composites::status_of` meets its contract. Assumes nothing.
+-- `lower_arbitrate::composites::status_of` meets its contract.
 use Rattle.lower_arbitrate.proofs.composites.status_of.Statement.{statement}
 use Rattle.lower_arbitrate.proofs.composites.status_of.Tie as tie
 

@@ -1,4 +1,4 @@
--- `nodes::up_fixed` meets its contract. Assumes nothing.
+-- `lower_arbitrate::nodes::up_fixed` meets its contract.
 use Rattle.builder_table.specs.Work.{mem}
 use Rattle.lower_arbitrate.proofs.NodesMade.{fixed-made}
 use borrow.Author.Needs.{needs}

@@ -1,4 +1,4 @@
--- `nodes::up_leaf` meets its contract. Assumes nothing.
+-- `lower_arbitrate::nodes::up_leaf` meets its contract.
 use native.Mathlib.Omega.{arith}
 use Rattle.builder_table.specs.Work.{mem}
 use Rattle.lower_arbitrate.proofs.NodesMade.{leaf-made}

@@ -1,4 +1,4 @@
--- `arbitrate::fits` meets its contract. Assumes nothing.
+-- `lower_arbitrate::state::fits` meets its contract.
 use native.Mathlib.Omega.{arith}
 use Rattle.lower_arbitrate.proofs.Families.{fits-none, fits-few, fits-rows}
 use borrow.Author.Needs.{needs}

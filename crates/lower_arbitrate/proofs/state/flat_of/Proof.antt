@@ -1,4 +1,4 @@
--- `arbitrate::flat_of` meets its contract. Assumes nothing.
+-- `lower_arbitrate::state::flat_of` meets its contract.
 use mathlib.Core.Path.{ap}
 use Rattle.construct.specs.Lower.{flatOf}
 use Rattle.walk.specs.Kind.{Kind, kindOf}

@@ -1,4 +1,4 @@
--- `arbitrate::put_raw` meets its contract. Assumes nothing.
+-- `lower_arbitrate::state::put_raw` meets its contract.
 use Rattle.builder_table.specs.Work.{mem}
 use Rattle.lower_arbitrate.proofs.StateMade.{raw-made}
 use borrow.Author.Needs.{needs}

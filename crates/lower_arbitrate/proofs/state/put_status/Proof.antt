@@ -1,4 +1,4 @@
--- `arbitrate::put_status` meets its contract. Assumes nothing.
+-- `lower_arbitrate::state::put_status` meets its contract.
 use native.Mathlib.Omega.{arith}
 use Rattle.builder_table.specs.Work.{mem}
 use Rattle.lower_arbitrate.proofs.StateMade.{put-made}

@@ -1,4 +1,4 @@
--- `arbitrate::ready` meets its contract. Assumes nothing.
+-- `lower_arbitrate::state::ready` meets its contract.
 use Rattle.lower_arbitrate.proofs.Families.{ready-ordered}
 use borrow.Author.Needs.{needs}
 use Rattle.lower_arbitrate.proofs.state.ready.Statement.{statement}

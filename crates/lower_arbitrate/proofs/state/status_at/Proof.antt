@@ -1,4 +1,4 @@
--- `arbitrate::status_at` meets its contract. Assumes nothing.
+-- `lower_arbitrate::state::status_at` meets its contract.
 use Rattle.status.specs.Bits.{bits}
 use borrow.Author.Needs.{needs}
 use Rattle.lower_arbitrate.proofs.state.status_at.Statement.{statement}

@@ -1,4 +1,4 @@
--- `emit::copy_form` meets its contract. Assumes nothing.
+-- `lower_emit::emit::copy_form` meets its contract.
 use native.Mathlib.Omega.{arith}
 use mathlib.Core.Path.{_≡_, refl, _∙_}
 use mathlib.Core.List.{List}

@@ -1,4 +1,4 @@
--- `emit::count_ops` meets its contract. Assumes nothing.
+-- `lower_emit::emit::count_ops` meets its contract.
 use native.Mathlib.Omega.{arith}
 use mathlib.Core.Path.{_≡_}
 use Prim.Native.Nat.{_+_, _-_, _≤_}

@@ -1,4 +1,4 @@
--- `emit::count_terms` meets its contract. Assumes nothing.
+-- `lower_emit::emit::count_terms` meets its contract.
 use native.Mathlib.Omega.{arith}
 use borrow.Author.Needs.{needs}
 use Rattle.lower_emit.proofs.emit.count_terms.Statement.{statement}

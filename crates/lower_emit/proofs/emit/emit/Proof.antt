@@ -1,4 +1,4 @@
--- `emit::emit` meets its contract. Assumes nothing.
+-- `lower_emit::emit::emit` meets its contract.
 use native.Mathlib.Omega.{arith}
 use Rattle.builder_table.specs.Work.{mem}
 use Rattle.lower_emit.specs.Emit.{image}

@@ -1,4 +1,4 @@
--- `emit::emit_form` meets its contract. Assumes nothing.
+-- `lower_emit::emit::emit_form` meets its contract.
 use Rattle.lower_emit.proofs.Made.{put-next, form-made}
 use borrow.Author.Needs.{needs}
 use Rattle.lower_emit.proofs.emit.emit_form.Statement.{statement}

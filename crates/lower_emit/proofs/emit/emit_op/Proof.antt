@@ -1,4 +1,4 @@
--- `emit::emit_op` meets its contract. Assumes nothing.
+-- `lower_emit::emit::emit_op` meets its contract.
 use native.Mathlib.Omega.{arith}
 use Prim.Native.Nat.{_+_, _*_}
 use lib.ListN.{length-set}

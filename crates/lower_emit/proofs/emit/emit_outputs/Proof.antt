@@ -1,4 +1,4 @@
--- `emit::emit_outputs` meets its contract. Assumes nothing.
+-- `lower_emit::emit::emit_outputs` meets its contract.
 use native.Mathlib.Omega.{arith}
 use mathlib.Core.Path.{_≡_, refl}
 use Prim.Native.Nat.{_+_, _-_, _≤_}

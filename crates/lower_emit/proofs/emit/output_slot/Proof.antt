@@ -1,4 +1,4 @@
--- `emit::output_slot` meets its contract. Assumes nothing.
+-- `lower_emit::emit::output_slot` meets its contract.
 use native.Mathlib.Omega.{arith}
 use Prim.Native.Nat.{_%_}
 use Rattle.lower_emit.proofs.Slots.{row-low, slot-past, slot-nodal}

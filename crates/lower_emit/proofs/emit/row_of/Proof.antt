@@ -1,4 +1,4 @@
--- `emit::row_of` meets its contract. Assumes nothing.
+-- `lower_emit::emit::row_of` meets its contract.
 use Rattle.lower_emit.specs.Emit.{rowOf}
 use borrow.Author.Tests.{eq-eqb, ne-eqb}
 use Rattle.lower_emit.proofs.emit.row_of.Statement.{statement}

@@ -1,4 +1,4 @@
--- `gates::clears` meets its contract. Assumes nothing.
+-- `lower_ordered::gates::clears` meets its contract.
 use Rattle.builder_table.specs.Work.{mem}
 use native.Mathlib.Omega.{arith}
 use Rattle.lower_ordered.proofs.GatesMade.{clears-start, clears-turn, clears-end}

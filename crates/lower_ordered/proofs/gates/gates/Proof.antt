@@ -1,8 +1,8 @@
--- `gates::gates` meets its contract. Assumes nothing.
+-- `lower_ordered::gates::gates` meets its contract.
 use Rattle.builder_table.specs.Work.{mem}
 use native.Mathlib.Omega.{arith}
 use Rattle.lower_ordered.proofs.GatesMade.{gates-start, gates-turn, gates-end}
-use mathlib.Core.Path.{_≡_, refl, _∙_}
+use mathlib.Core.Path.{_≡_, refl}
 use Prim.Native.Nat.{_-_, _≤_}
 use lib.ListN.{length}
 use Rattle.lower_passes.specs.Gates.{gatesIn}

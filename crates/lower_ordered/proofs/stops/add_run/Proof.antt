@@ -1,4 +1,4 @@
--- `stops::add_run` meets its contract. Assumes nothing.
+-- `lower_ordered::stops::add_run` meets its contract.
 use Rattle.builder_table.specs.Work.{mem}
 use native.Mathlib.Omega.{arith}
 use Rattle.lower_ordered.proofs.StopsMade.{run-made}
@@ -29,7 +29,7 @@ same-length-2 : tie.Need-same-length-2
 same-length-2 c = search needs
 
 returns : tie.Need-returns
-returns c nums biases = let a = c .before .before .before .before .before .before .before .before .before .before .before .before .before .before .before .before .before .before .before .before .before .before .before .before .before .before .before .before .before .before .args in run-made (mem (a .wires .now) (a .coefs .now) nums biases) (a .at) (a .run) (a .cur) (a .bit) (a .k) (a .other) (ofNat-diff binary32 (a .k)) (c .before .before .before .before .before .before .before .before .before .before .before .before .before .before .before .before .before .before .before .before .before .before .before .before .before .plus .ensures nums biases) (c .before .before .before .before .before .before .before .before .before .before .before .before .before .before .before .scaled .ensures nums biases) (c .before .before .before .before .before .before .plus2 .ensures nums biases)
+returns c nums biases = let a = c .before .before .before .before .before .before .before .before .before .before .before .before .before .before .before .before .before .before .before .before .before .before .before .before .before .before .before .before .before .before .args in run-made (mem (a .wires .now) (a .coefs .now) nums biases) (a .at) (a .run) (a .cursor) (a .bit) (a .k) (a .other) (ofNat-diff binary32 (a .k)) (c .before .before .before .before .before .before .before .before .before .before .before .before .before .before .before .before .before .before .before .before .before .before .before .before .before .plus .ensures nums biases) (c .before .before .before .before .before .before .before .before .before .before .before .before .before .before .before .scaled .ensures nums biases) (c .before .before .before .before .before .before .plus2 .ensures nums biases)
 
 pub add-run-spec : {M : Type 1} → statement M
 add-run-spec =

@@ -1,8 +1,8 @@
--- `stops::picks` meets its contract. Assumes nothing.
+-- `lower_ordered::stops::picks` meets its contract.
 use Rattle.builder_table.specs.Work.{mem}
 use native.Mathlib.Omega.{arith}
 use Rattle.lower_ordered.proofs.StopsMade.{picks-start, picks-turn, picks-end}
-use mathlib.Core.Path.{_≡_, refl, ap, _∙_}
+use mathlib.Core.Path.{_≡_, refl}
 use Prim.Native.Nat.{_-_, _≤_}
 use lib.ListN.{length}
 use Rattle.lower_passes.specs.Stops.{picksIn}

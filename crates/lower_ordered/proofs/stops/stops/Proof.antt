@@ -1,4 +1,4 @@
--- `stops::stops` meets its contract. Assumes nothing.
+-- `lower_ordered::stops::stops` meets its contract.
 use Rattle.builder_table.specs.Work.{mem}
 use native.Mathlib.Omega.{arith}
 use Rattle.lower_ordered.proofs.StopsMade.{stops-start, stops-turn, stops-end}

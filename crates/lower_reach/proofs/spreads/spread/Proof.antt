@@ -1,4 +1,4 @@
--- `spreads::spread` meets its contract. Assumes nothing.
+-- `lower_reach::spreads::spread` meets its contract.
 use native.Mathlib.Omega.{arith}
 use Rattle.builder_table.specs.Work.{mem}
 use Rattle.lower_reach.proofs.SpreadsMade.{spread-start, spread-turn, spread-end}

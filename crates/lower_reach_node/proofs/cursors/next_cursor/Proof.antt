@@ -1,4 +1,4 @@
--- `cursors::next_cursor` meets its contract. Assumes nothing.
+-- `lower_reach_node::cursors::next_cursor` meets its contract.
 use native.Mathlib.Omega.{arith}
 use Rattle.builder_table.specs.Work.{mem}
 use Rattle.lower_reach_node.proofs.CursorsMade.{cursor-made}

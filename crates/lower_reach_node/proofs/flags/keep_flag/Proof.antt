@@ -1,4 +1,4 @@
--- `flags::keep_flag` meets its contract. Assumes nothing.
+-- `lower_reach_node::flags::keep_flag` meets its contract.
 use native.Mathlib.Omega.{arith}
 use Rattle.builder_table.specs.Work.{mem}
 use Rattle.lower_reach_node.proofs.FlagsMade.{kept-made}

@@ -1,4 +1,4 @@
--- `flags::next_running` meets its contract. Assumes nothing.
+-- `lower_reach_node::flags::next_running` meets its contract.
 use native.Mathlib.Omega.{arith}
 use Rattle.builder_table.specs.Work.{mem}
 use Rattle.lower_reach_node.proofs.FlagsMade.{flags-start, flags-turn, flags-end}

@@ -1,4 +1,4 @@
--- `halts::halt_one` meets its contract. Assumes nothing.
+-- `lower_reach_node::halts::halt_one` meets its contract.
 use native.Mathlib.Omega.{arith}
 use Rattle.builder_table.specs.Work.{mem}
 use Rattle.lower_reach_node.proofs.HaltsMade.{halt-made}

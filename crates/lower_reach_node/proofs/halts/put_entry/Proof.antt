@@ -1,4 +1,4 @@
--- `halts::put_entry` meets its contract. Assumes nothing.
+-- `lower_reach_node::halts::put_entry` meets its contract.
 use native.Mathlib.Omega.{arith}
 use Rattle.builder_table.specs.Work.{mem}
 use Rattle.lower_reach_node.proofs.HaltsMade.{entry-made}

@@ -1,5 +1,5 @@
--- `plan::cursor_list` meets its contract: kinds 4 and 6 are those that own a cursor.
--- Assumes nothing.
+-- `plan::lists::cursor_list` meets its contract: kinds 4 and 6 are those that own a cursor.
+--
 use Rattle.plan.specs.Plan.{cursorsOf}
 use borrow.Author.Needs.{needs}
 use Rattle.plan.proofs.lists.cursor_list.Statement.{statement}

@@ -1,5 +1,5 @@
--- `plan::leaf_list` meets its contract: a leaf is of kind 1.
--- Assumes nothing.
+-- `plan::lists::leaf_list` meets its contract: a leaf is of kind 1.
+--
 use mathlib.Core.Path.{_≡_, refl}
 use mathlib.Core.Bool.{Bool, true, false, _||_}
 use mathlib.Core.List.{List}

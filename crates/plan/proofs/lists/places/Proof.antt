@@ -1,5 +1,5 @@
--- `plan::places` meets its contract: the loop keeps `At`, what is listed so far and what is still to be.
--- Assumes nothing.
+-- `plan::lists::places` meets its contract: the loop keeps `At`, what is listed so far and what is still to be.
+--
 use mathlib.Core.Logic.{⊎-elim}
 use mathlib.Core.Path.{_∙_}
 use Prim.Native.Nat.{_-_}

@@ -1,5 +1,5 @@
--- `plan::put` meets its contract: a store past the end is none.
--- Assumes nothing.
+-- `plan::lists::put` meets its contract: a store past the end is none.
+--
 use mathlib.Core.Path.{sym}
 use lib.Seq.{set-out}
 use borrow.Author.Needs.{needs}

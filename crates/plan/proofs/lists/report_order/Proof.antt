@@ -1,6 +1,6 @@
--- `plan::report_order` meets its contract: the loop keeps `At`, what is reported so far and what is still to be; the measure counts the nodes
+-- `plan::lists::report_order` meets its contract: the loop keeps `At`, what is reported so far and what is still to be; the measure counts the nodes
 -- that are still to be read and those that are open.
--- Assumes nothing.
+--
 use Prim.Native.Nat.{_+_, _*_, _-_, _<_}
 use lib.ListN.{getD, set}
 use native.Mathlib.Omega.{arith}

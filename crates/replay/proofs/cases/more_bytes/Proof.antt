@@ -1,5 +1,5 @@
--- `replay::more_bytes` is safe and ends: a line has been passed.
--- Assumes nothing.
+-- `replay::cases::more_bytes` is safe and ends: a line has been passed.
+--
 use Prim.Native.Nat.{_-_}
 use mathlib.Core.Path.{_≡_}
 use borrow.Author.Needs.{needs}

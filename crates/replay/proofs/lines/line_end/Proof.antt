@@ -1,5 +1,5 @@
--- `replay::line_end` is safe and ends: the position lies between the start and the end of the text.
--- Assumes nothing.
+-- `replay::lines::line_end` is safe and ends: the position lies between the start and the end of the text.
+--
 use Prim.Native.Nat.{_-_, _≤_}
 use borrow.Author.Needs.{needs}
 use lib.ListN.{length}

@@ -1,5 +1,5 @@
--- `replay::number_at` is safe and ends: the position lies within the line.
--- Assumes nothing.
+-- `replay::lines::number_at` is safe and ends: the position lies within the line.
+--
 use Prim.Native.Nat.{_-_, _≤_, _<_}
 use borrow.Author.Needs.{needs}
 use lib.ListN.{length}

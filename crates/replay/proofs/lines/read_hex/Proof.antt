@@ -1,5 +1,5 @@
--- `replay::read_hex` is safe and ends: positions lie within the line and within the bytes.
--- Assumes nothing.
+-- `replay::lines::read_hex` is safe and ends: positions lie within the line and within the bytes.
+--
 use Prim.Native.Nat.{_-_, _≤_}
 use mathlib.Core.Path.{_≡_}
 use borrow.Author.Needs.{needs}

@@ -1,5 +1,5 @@
--- `replay::read_values` is safe and ends: fewer numbers are read than the list has places.
--- Assumes nothing.
+-- `replay::lines::read_values` is safe and ends: fewer numbers are read than the list has places.
+--
 use Prim.Native.Nat.{_-_, _≤_}
 use mathlib.Core.Path.{_≡_}
 use borrow.Author.Needs.{needs}

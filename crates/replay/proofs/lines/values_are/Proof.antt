@@ -1,5 +1,5 @@
--- `replay::values_are` is safe and ends: fewer values are compared than there are.
--- Assumes nothing.
+-- `replay::lines::values_are` is safe and ends: fewer values are compared than there are.
+--
 use Prim.Native.Nat.{_-_, _≤_}
 use borrow.Author.Needs.{needs}
 use lib.ListN.{length}

@@ -1,5 +1,5 @@
--- `replay::nodes_agree` is safe and ends: the node is one of those that there are.
--- Assumes nothing.
+-- `replay::lists::nodes_agree` is safe and ends: the node is one of those that there are.
+--
 use Prim.Native.Nat.{_-_, _≤_}
 use borrow.Author.Needs.{needs}
 use lib.ListN.{length}

@@ -1,5 +1,5 @@
--- `replay::five_lines` is safe and ends: the turns are five.
--- Assumes nothing.
+-- `replay::ticks::five_lines` is safe and ends: the turns are five.
+--
 use Prim.Native.Nat.{_-_, _≤_}
 use borrow.Author.Needs.{needs}
 use Rattle.replay.proofs.ticks.five_lines.Statement.{statement}

@@ -1,5 +1,5 @@
--- `replay::ticks_at` is safe and ends: a tick has been passed.
--- Assumes nothing.
+-- `replay::ticks::ticks_at` is safe and ends: a tick has been passed.
+--
 use Prim.Native.Nat.{_-_}
 use borrow.Author.Needs.{needs}
 use lib.ListN.{length}

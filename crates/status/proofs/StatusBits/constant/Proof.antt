@@ -1,4 +1,4 @@
--- `status::StatusBits::constant` meets its contract. Assumes nothing.
+-- `status::StatusBits::constant` meets its contract.
 use mathlib.Core.Path.{_∙_}
 use Rattle.status.specs.Bits.{withBit}
 use borrow.Author.Needs.{needs}

@@ -1,4 +1,4 @@
--- `status::StatusBits::forced` meets its contract. Assumes nothing.
+-- `status::StatusBits::forced` meets its contract.
 use mathlib.Core.Path.{_∙_}
 use Rattle.status.specs.Bits.{withBit, forcedBits}
 use borrow.Author.Needs.{needs}

@@ -1,4 +1,4 @@
--- `status::StatusBits::unticked` meets its contract. Assumes nothing.
+-- `status::StatusBits::unticked` meets its contract.
 use borrow.Author.Needs.{needs}
 use Rattle.status.proofs.StatusBits.unticked.Statement.{statement}
 use Rattle.status.proofs.StatusBits.unticked.Tie as tie

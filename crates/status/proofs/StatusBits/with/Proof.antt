@@ -1,4 +1,4 @@
--- `status::StatusBits::with` meets its contract. Assumes nothing.
+-- `status::StatusBits::with` meets its contract.
 use Rattle.status.specs.Bits.{withBit}
 use borrow.Author.Needs.{needs}
 use Rattle.status.proofs.StatusBits.with.Statement.{statement}

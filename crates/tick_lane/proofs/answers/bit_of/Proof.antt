@@ -1,4 +1,4 @@
--- `answers::bit_of` meets its contract. Assumes nothing.
+-- `tick_lane::answers::bit_of` meets its contract.
 use mathlib.Core.Path.{sym, _∙_}
 use borrow.Author.Needs.{needs}
 use Rattle.tick_lane.proofs.answers.bit_of.Statement.{statement}

@@ -1,4 +1,4 @@
--- `answers::status_of` meets its contract. Assumes nothing.
+-- `tick_lane::answers::status_of` meets its contract.
 use mathlib.Core.Path.{sym, _∙_}
 use borrow.Author.Needs.{needs}
 use borrow.Author.Tests.{not-true, not-false}

@@ -1,4 +1,4 @@
--- `answers::write_edges` meets its contract. Assumes nothing.
+-- `tick_lane::answers::write_edges` meets its contract.
 use mathlib.Core.Path.{_≡_, refl, _∙_}
 use Prim.Native.Nat.{_-_, _≤_}
 use native.Mathlib.Omega.{arith}

@@ -1,4 +1,4 @@
--- `evaluate::fill_table` meets its contract. Assumes nothing.
+-- `tick_lane::evaluate::fill_table` meets its contract.
 use borrow.Author.Needs.{needs}
 use Rattle.tick_lane.proofs.Cells.{table-is}
 use Rattle.tick_lane.proofs.evaluate.fill_table.Statement.{statement}

@@ -1,4 +1,4 @@
--- `evaluate::put_cells` meets its contract. Assumes nothing.
+-- `tick_lane::evaluate::put_cells` meets its contract.
 use borrow.Author.Needs.{needs}
 use Rattle.tick_lane.proofs.Cells.{cells-are}
 use Rattle.tick_lane.proofs.evaluate.put_cells.Statement.{statement}

@@ -1,4 +1,4 @@
--- `evaluate::put_flags` meets its contract. Assumes nothing.
+-- `tick_lane::evaluate::put_flags` meets its contract.
 use mathlib.Core.Path.{_≡_, refl, ap, _∙_}
 use Prim.Native.Nat.{_-_, _≤_}
 use native.Mathlib.Omega.{arith}

@@ -1,4 +1,4 @@
--- `evaluate::read_outs` meets its contract. Assumes nothing.
+-- `tick_lane::evaluate::read_outs` meets its contract.
 use mathlib.Core.Path.{_≡_, refl, ap, _∙_}
 use Prim.Native.Nat.{_-_, _≤_}
 use native.Mathlib.Omega.{arith}

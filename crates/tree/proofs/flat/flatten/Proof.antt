@@ -1,5 +1,5 @@
--- `tree::flatten` meets its contract: what `read_tree` answers and leaves, where there is room for it, and zeros elsewhere.
--- Assumes nothing.
+-- `tree::flat::flatten` meets its contract: what `read_tree` answers and leaves, where there is room for it, and zeros elsewhere.
+--
 use borrow.Author.Needs.{needs}
 use Rattle.tree.proofs.flat.flatten.Statement.{statement}
 use Rattle.tree.proofs.flat.flatten.Tie as tie

@@ -1,5 +1,5 @@
--- `tree::limited` meets its contract: each `return` is the case of the definition that the tests before it leave.
--- Assumes nothing.
+-- `tree::flat::limited` meets its contract: each `return` is the case of the definition that the tests before it leave.
+--
 use borrow.Author.Needs.{needs}
 use borrow.Author.Tests.{le-ltb, lt-ltb, le-leb, lt-leb}
 use Rattle.tree.proofs.flat.limited.Statement.{statement}

@@ -1,5 +1,5 @@
--- `tree::passed_on` meets its contract, case by case.
--- Assumes nothing.
+-- `tree::flat::passed_on` meets its contract, case by case.
+--
 use borrow.Author.Needs.{needs}
 use Rattle.tree.proofs.flat.passed_on.Statement.{statement}
 use Rattle.tree.proofs.flat.passed_on.Tie as tie

@@ -1,6 +1,6 @@
--- `tree::read_tree` meets its contract: the loop keeps `At`, what is left of the parse; the measure counts the nodes that may come and the
+-- `tree::flat::read_tree` meets its contract: the loop keeps `At`, what is left of the parse; the measure counts the nodes that may come and the
 -- open ancestors.
--- Assumes nothing.
+--
 use Prim.Native.Nat.{_+_, _*_, _-_, _≤_, _<_}
 use native.Mathlib.Omega.{arith}
 use borrow.Author.Needs.{needs}

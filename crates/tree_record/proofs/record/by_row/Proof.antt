@@ -1,5 +1,5 @@
--- `record::by_row` meets its contract: each `return` is the case of `familyRecord` that the tests before it leave.
--- Assumes nothing.
+-- `tree_record::record::by_row` meets its contract: each `return` is the case of `familyRecord` that the tests before it leave.
+--
 use mathlib.Core.Path.{_≡_, _∙_, ap, sym}
 use Prim.Native.Nat.{ℕ, _+_, _≤_}
 use native.Mathlib.Omega.{arith}

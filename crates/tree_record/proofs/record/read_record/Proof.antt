@@ -1,5 +1,5 @@
--- `record::read_record` meets its contract: each step carries `recordAt` one stage on, by the tests that led there.
--- Assumes nothing.
+-- `tree_record::record::read_record` meets its contract: each step carries `recordAt` one stage on, by the tests that led there.
+--
 use mathlib.Core.Path.{_≡_, _∙_, ap, sym}
 use Prim.Native.Nat.{_-_}
 use native.Mathlib.Omega.{arith}

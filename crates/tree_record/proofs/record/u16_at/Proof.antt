@@ -1,5 +1,5 @@
--- `record::u16_at` meets its contract: both bytes are below 256.
--- Assumes nothing.
+-- `tree_record::record::u16_at` meets its contract: both bytes are below 256.
+--
 use Prim.Native.Nat.{_+_}
 use native.Mathlib.Omega.{arith}
 use borrow.Author.Needs.{needs}

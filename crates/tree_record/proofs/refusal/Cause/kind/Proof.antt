@@ -1,5 +1,5 @@
--- `record::Cause::kind` meets its contract: no other cause carries a kind.
--- Assumes nothing.
+-- `tree_record::refusal::Cause::kind` meets its contract: no other cause carries a kind.
+--
 use mathlib.Core.Path.{_≡_, refl}
 use mathlib.Core.List.{[], _∷_}
 use borrow.Author.Needs.{needs}

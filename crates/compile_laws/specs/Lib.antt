@@ -1,2 +1,0 @@
-pub mod Compiles
-pub mod Encoded

@@ -1,2 +1,0 @@
-pub mod Cards
-pub mod Uses

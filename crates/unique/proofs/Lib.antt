@@ -1,0 +1,12 @@
+pub mod Arena
+pub mod Builder
+pub mod C
+pub mod Compile
+pub mod Listing
+pub mod Lower
+pub mod Numbers
+pub mod Plan
+pub mod Text
+pub mod Tick
+pub mod Tree
+pub mod Wire
