@@ -4,7 +4,7 @@
 # non-zero exit.
 set -eu
 cd "$(dirname "$0")/.."
-rt staticlib palthengi >/dev/null
+tools/archive palthengi
 out=target/examples
 mkdir -p $out
 for name in divert refusals one_leaf; do
@@ -13,7 +13,7 @@ for name in divert refusals one_leaf; do
     diff examples/$name.txt $out/$name.txt
     echo "examples: $name agrees"
 done
-rt check ticklist >/dev/null
+tools/program ticklist
 examples/divert.sh | target/bin/ticklist >$out/divert.listing
 diff examples/divert.listing $out/divert.listing
 echo "examples: the divert's listing agrees"

@@ -1,6 +1,6 @@
 /* Palthengi for C: compiling a tree, the check of a lent circuit, validation of a value table, and one tick.
  *
- * Every function answers on every input and leaves exactly what is said below. That is proved of the source in crates/palthengi and below it;
+ * Every function answers on every input and leaves exactly what is said below. That is proved of the source in crates/palthengi_export and below;
  * of the archive target/staticlib/libpalthengi.a it holds as far as the compiler that made it is right.
  * It allocates nothing and keeps nothing between calls: all that it works on is lent by the caller. So it may be called from several threads
  * at once, on different storage (a circuit that is only ticked may be shared), and from an interrupt.

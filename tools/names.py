@@ -17,7 +17,7 @@ def dependencies():
         for line in file:
             name, colon, rest = line.split('#')[0].partition(':')
             if colon:
-                found[name.strip()] = rest.split()
+                found[name.split()[0]] = rest.split()
     return found
 
 
@@ -30,7 +30,7 @@ def sources(crate):
     """The .rt and .antt files of a crate that are proved, as paths from the repository's root."""
     found = []
     for folder, folders, files in os.walk(os.path.join(CRATES, crate)):
-        folders[:] = sorted(f for f in folders if f != 'must-fail')
+        folders[:] = sorted(f for f in folders if f not in ('must-fail', 'out'))
         found += [os.path.relpath(os.path.join(folder, name), ROOT) for name in sorted(files) if name.endswith(('.rt', '.antt'))]
     return found
 
@@ -58,10 +58,29 @@ def headlines():
 
 USE = re.compile(r'^[ \t]*(?:ghost )?use ([^\s{;:]+?)(?:\.\{([^}]*)\}| as (\S+?));?[ \t]*$', re.M)
 TOKEN = re.compile(r'[^\s(){};,.⌜⌝«»@]+')
+CLAUSE = re.compile(r'\b(?:requires|ensures)\*?(?: \w+)? \{')
+
+
+def clauses(text):
+    """Where the braces of each clause begin and end."""
+    for clause in CLAUSE.finditer(text):
+        depth, at = 1, clause.end()
+        while depth:
+            depth += {'{': 1, '}': -1}.get(text[at], 0)
+            at += 1
+        yield clause.end(), at - 1
 
 
 def contracts(text):
-    return '\n'.join(re.findall(r'⌜.*?⌝', text, re.S))
+    """What the braces of the clauses hold."""
+    return '\n'.join(text[start:end] for start, end in clauses(text))
+
+
+def contracts_out(text):
+    """The text without that."""
+    for start, end in reversed(list(clauses(text))):
+        text = text[:start] + text[end:]
+    return text
 
 
 @lru_cache(None)
@@ -82,9 +101,21 @@ def tokens_behind(alias, text):
 
 
 def stands_in(name, found):
-    """Whether a name, or every part of an operator such as _+_, is among the tokens."""
-    parts = [p for p in name.split('_') if p] if '_' in (name[0], name[-1]) else [name]
-    return all(p in found for p in parts)
+    """Whether a name, or every part of an operator such as ◌+◌, is among the tokens."""
+    return all(p in found for p in name.split('◌') if p)
+
+
+# `use a::b::Name;` or `use a::b::{Name, other};` of an .rt file.
+CODE_USE = re.compile(r'^use ([\w:]+)::(\w+|\{[^}]*\});', re.M)
+
+
+def names_in(items):
+    return [item.strip() for item in items.strip('{}').split(',') if item.strip()]
+
+
+def imported_code(text):
+    """What an .rt file imports for its code: pairs of a crate and a name."""
+    return [(use[1].split('::')[0], name) for use in CODE_USE.finditer(text) for name in names_in(use[2])]
 
 
 @lru_cache(None)
@@ -109,9 +140,9 @@ def module_of(path):
 
 
 def imported_module(text):
-    """The same of a module's path, `Rattle·CRATE.specs.X` or from the crate itself `Rattle·CRATE·specs.specs.X`; None for a library's."""
-    found = re.match(r'Rattle·(\w+?)(?:·\w+)?\.(specs|proofs)\.(.+)$', text)
-    return found.groups() if found else None
+    """The same of a module's path, `Rattle.CRATE.specs.X`; None for a library's."""
+    found = re.match(r'Rattle\.(\w+)\.(specs|proofs)\.(.+)$', text)
+    return found.groups() if found and found[1] in dependencies() else None
 
 
 # ---- declarations of an .antt file

@@ -6,6 +6,6 @@ if [ ! -e ../shared/docs/src/circuit/src/wire.rs ]; then
     echo "arenatest: no ../shared here, so the arena is not compared with the Rust"
     exit 0
 fi
-rt staticlib arena_c >/dev/null
+tools/archive arena_c
 cd oracle
 cargo test --offline --release --quiet -p arenatest --test '*' -- --nocapture

@@ -3,7 +3,7 @@
 # difference ends it with a non-zero exit.
 set -eu
 cd "$(dirname "$0")/../.."
-rt check ticklist >/dev/null
+tools/program ticklist
 cd oracle
 cargo build --offline --release --quiet -p listings
 

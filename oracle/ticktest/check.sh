@@ -7,7 +7,7 @@ if [ ! -e ../shared/docs/src/circuit/src/lower.rs ]; then
     echo "ticktest: no ../shared here, so compile and tick are not compared"
     exit 0
 fi
-rt staticlib palthengi >/dev/null
+tools/archive palthengi
 cd oracle
 cargo build --offline --release --quiet -p ticktest
 run() {

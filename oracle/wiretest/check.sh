@@ -2,6 +2,6 @@
 # Crate wire_c against plain Rust f32 arithmetic: builds the crate's archive, the test, and runs it.
 set -eu
 cd "$(dirname "$0")/../.."
-rt staticlib wire_c >/dev/null
+tools/archive wire_c
 cd oracle
 cargo test --offline --release --quiet -p wiretest --test '*' -- --nocapture

@@ -1,5 +1,7 @@
 // Forms made in an arena: two lent pools of terms, of which those below a mark are in use. Nothing in use is written again, so a form keeps what it
 // stands for, and forms may share their terms. Every operation is total: where there is no room it writes nothing, and a flag falls and stays down.
+#![tactic(auto)]
+
 ghost use Rattle.std.specs.Prelude.{◌≡◌};
 ghost use Rattle.arena.specs.Arena.{Leaves, offset_form, single_in, plus_in, scaled_in, one_minus_in};
 

@@ -1,4 +1,6 @@
 // The arena's operations for callers in C and Rust: a form by its bias and range, the room by the terms in use and the flag.
+#![tactic(auto)]
+
 ghost use Rattle.std.specs.Prelude.{◌≡◌, true};
 ghost use Rattle.arena.specs.Arena.{plus_in, scaled_in, one_minus_in};
 ghost use Rattle.arena_c.specs.Flat.{Leaves};
@@ -7,7 +9,7 @@ use arena_room::{Formed, Room};
 use wire::Form;
 
 #[repr(C)]
-#[derive(Drop)]
+#[derive(Clone, Copy)]
 pub struct Row {
     pub bias: f32,
     pub first: usize,
@@ -31,8 +33,7 @@ fn row_of(r: Formed) -> Row
 }
 
 // a + b
-#[unsafe(no_mangle)]
-pub extern "C" fn palthengi_plus(
+pub fn palthengi_plus(
     wires: &mut [u32],
     coefs: &mut [f32],
     used: usize,
@@ -60,8 +61,7 @@ pub extern "C" fn palthengi_plus(
 }
 
 // factor * a
-#[unsafe(no_mangle)]
-pub extern "C" fn palthengi_scaled(
+pub fn palthengi_scaled(
     wires: &mut [u32],
     coefs: &mut [f32],
     used: usize,
@@ -82,8 +82,7 @@ pub extern "C" fn palthengi_scaled(
 }
 
 // 1 - a
-#[unsafe(no_mangle)]
-pub extern "C" fn palthengi_one_minus(
+pub fn palthengi_one_minus(
     wires: &mut [u32],
     coefs: &mut [f32],
     used: usize,

@@ -1,4 +1,6 @@
 // The room of an arena: whether there is enough for an operation, and what the operation answers. An inner crate: the arena above it writes the terms.
+#![tactic(auto)]
+
 ghost use Rattle.std.specs.Prelude.{◌≡◌, true, false, ◌+◌, ◌-◌, ◌≤◌, leb};
 ghost use Rattle.exact.specs.Whole.{zero32};
 ghost use Rattle.wire.specs.Terms.{constant_form};
@@ -8,13 +10,13 @@ ghost use Rattle.arena_room.specs.Fits.{in_use, fits_sum, fits_scaled};
 use wire::Form;
 
 // How many terms of the pools are in use, and whether all that was asked so far had room.
-#[derive(Drop)]
+#[derive(Clone, Copy)]
 pub struct Room {
     pub used: usize,
     pub ok: bool,
 }
 
-#[derive(Drop)]
+#[derive(Clone, Copy)]
 pub struct Formed {
     pub form: Form,
     pub room: Room,

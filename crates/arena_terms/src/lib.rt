@@ -1,4 +1,6 @@
 // Terms in the two pools of an arena: the sum of two forms, merged by wire, and the multiple of one.
+#![tactic(auto)]
+
 mod merge;
 mod terms;
 

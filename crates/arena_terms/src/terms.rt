@@ -7,7 +7,7 @@ use index::Wire;
 use wire::Term;
 
 // The next term of a merge of those from i up to ie with those from j up to je, and where both then stand.
-#[derive(Drop)]
+#[derive(Clone, Copy)]
 pub struct Next {
     pub term: Term,
     pub i: usize,

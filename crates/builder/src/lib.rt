@@ -2,6 +2,8 @@
 // constant. The two identities hold of counts, which are natural numbers:
 //   [count == 0] = max(0, 1 - count)
 //   [count >= k] = max(0, count - k + 1) - max(0, count - k)
+#![tactic(auto)]
+
 ghost use Rattle.std.specs.Prelude.{◌≡◌, List, ℕ, Float};
 ghost use Rattle.builder_table.specs.Work.{Whole, mem, ended};
 ghost use Rattle.builder_table.specs.Steps.{one_minus_in, plus_in};
@@ -11,15 +13,15 @@ use builder_table::{Builder, Made};
 use wire::Form;
 
 // A form that holds exactly 0 or 1.
-#[derive(Drop)]
+#[derive(Clone, Copy)]
 pub struct Bit(pub Form);
 
 // A form that holds a natural number.
-#[derive(Drop)]
+#[derive(Clone, Copy)]
 pub struct Count(pub Form);
 
 // A bit, and where building stands once it is made.
-#[derive(Drop)]
+#[derive(Clone, Copy)]
 pub struct Decided {
     pub bit: Bit,
     pub builder: Builder,

@@ -1,5 +1,7 @@
 // A builder by value beside what is lent to it: an arena of terms (two pools), and a table of forms (two slices), whose slot k is nums[2k], nums[2k + 1]
 // and biases[k]. The ops stand in the table's last part; the slots below are for forms that callers keep.
+#![tactic(auto)]
+
 ghost use Rattle.std.specs.Prelude.{◌≡◌, List, ℕ, ◌<◌, Float};
 ghost use Rattle.builder_table.specs.Work.{slots_most, Whole, slot, saved_nums, saved_biases, mem, ended};
 ghost use Rattle.builder_table.specs.Steps.{wire_in, plus_in, scaled_in, one_minus_in, push_in, full_form, full_builder};
@@ -9,7 +11,7 @@ use index::Wire;
 use wire::Form;
 
 // The map of the table: rows of 128 slots, each for one sort of form, then the ops.
-#[derive(Drop)]
+#[derive(Clone, Copy)]
 pub struct Table {}
 
 impl Table {
@@ -66,14 +68,14 @@ impl Table {
 }
 
 // Where building stands: the room in the arena, the ops made so far, and the input cells, past which the ops' wires follow.
-#[derive(Drop)]
+#[derive(Clone, Copy)]
 pub struct Builder {
     pub room: Room,
     pub ops: usize,
     pub cells: usize,
 }
 
-#[derive(Drop)]
+#[derive(Clone, Copy)]
 pub struct Made {
     pub form: Form,
     pub builder: Builder,

@@ -1,1 +1,2 @@
 // Document 01's bench cards, of compile and tick together: see specs/Cards. No code.
+#![tactic(auto)]

@@ -1,5 +1,5 @@
 -- The bottom-up pass: every node's status forms, its children's marks and its next cursor are the walk's.
-use Prim.Native.Nat.{◌+◌, ◌<◌, ◌≤◌, ℕ}
+use Prim.Native.Nat.{◌+◌, ◌<◌, ◌≤◌, suc, ℕ}
 use native.Mathlib.Omega.{arith}
 use mathlib.Core.Bool.{Bool, false, true}
 use mathlib.Core.List.{List, [], ◌∷◌}
@@ -49,7 +49,7 @@ pub record UpIs (ρ : ℕ → ℕ) (u : Up) (w : Would) : Type 0 where
 
 pub given_along : (ρ : ℕ → ℕ) (start : ℕ) {k : ℕ} {g : Bool} {ts : List StatusBits} {ss : List Status} → All2 (BitsAre ρ) ts ss → Along start (Given ρ) k g ts ss
 given_along ρ start none = nil
-given_along ρ start (both h hs) = cons h (given_along ρ start hs)
+given_along ρ start {k = k} (both h hs) = cons h (given_along ρ start {k = suc k} hs)
 
 pub along_marks : (opsAt : ℕ) (ρ : ℕ → ℕ) (start : ℕ) {k : ℕ} {g : Bool} {xs : List ArbitratedChild} {ss : List Status} → Along start (R3 opsAt ρ start) k g xs ss
     → All2 (MarkIs ρ) xs (marks start k g ss)

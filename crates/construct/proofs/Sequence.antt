@@ -32,7 +32,8 @@ module _ (opsAt : ℕ) where
   pub stops_grows : (p : Form) (xs : List ClearedChild) (os : List Op) → Grows os (stops pairs opsAt p xs os).ops
   unfolding stops
   stops_grows p [] os = same
-  stops_grows p (x ∷ xs) os = after (after (and_grows opsAt _ _ os) (and_grows opsAt _ _ _)) (stops_grows _ xs _)
+  stops_grows p (x ∷ xs) os = after (after (and_grows opsAt _ _ os) (and_grows opsAt _ _ _))
+      (stops_grows (plus p (and pairs opsAt x.clear x.child.blocked (and pairs opsAt x.clear (not' pairs x.child.before) os).ops).form) xs _)
 
   pub picks_grows : (k : ℕ) (o r c : Form) (xs : List ArbitratedChild) (os : List Op) → Grows os (picks pairs opsAt k o r c xs os).ops
   unfolding picks

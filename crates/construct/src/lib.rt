@@ -1,1 +1,2 @@
 // The construction of a circuit from nodes, as definitions and laws only: see specs/ and proofs/.
+#![tactic(auto)]

@@ -1,1 +1,2 @@
 // What a circuit means, as laws only: see proofs/.
+#![tactic(auto)]

@@ -1,1 +1,2 @@
 // How large the numbers of a circuit are, as laws only: see proofs/.
+#![tactic(auto)]

@@ -1,7 +1,7 @@
 -- The contracts of `lower::compile` and `tick::tick`, of plain lists: `Post` is what the toolchain reads off their `ensures`, so a contract
 -- that said less would permit more here. Definitions only.
 use Rattle.std.specs.Prelude.{ℕ, List, length, Float}
-use Rattle.std.specs.Borrow.{GName, Bor}
+use Rattle.std.specs.Borrow.{GName, Bor, MutBor}
 use contract.Lifetimes.{Lfts}
 use borrow.Fn.Kinds.{Dens}
 use Rattle.wire.specs.declared.Counts.{Counts}
@@ -19,8 +19,12 @@ pub record Place : Type 0 where
   pub ptr : ℕ × ℕ
   pub name : GName
 
+-- lent as `&`, and as `&mut`
 abbrev pub slice : {A : Type 0} → Place → List A → Bor (List A)
-slice p xs = record { ref_ptr = p.ptr; ghost_name = p.name; now = xs }
+slice p xs = record { ref_ptr = p.ptr; now = xs }
+
+abbrev pub mut_slice : {A : Type 0} → Place → List A → MutBor (List A)
+mut_slice p xs = record { ref_ptr = p.ptr; ghost_name = p.name; now = xs }
 
 -- arguments in their order
 infixr 30 ◌&◌
@@ -51,8 +55,8 @@ circuit_in n m = stored n m.nums m.biases m.wires m.coefs
 
 abbrev pub compile_given : (κs : Lfts 9) → (ℕ → Place) → List ℕ → Rooms → Dens κs compile-kinds.ps
 compile_given κs at tree m =
-    slice (at 0) tree & slice (at 1) m.nums & slice (at 2) m.biases & slice (at 3) m.wires & slice (at 4) m.coefs
-    & slice (at 5) m.work_nums & slice (at 6) m.work_biases & slice (at 7) m.work_wires & slice (at 8) m.work_coefs & tt
+    slice (at 0) tree & mut_slice (at 1) m.nums & mut_slice (at 2) m.biases & mut_slice (at 3) m.wires & mut_slice (at 4) m.coefs
+    & mut_slice (at 5) m.work_nums & mut_slice (at 6) m.work_biases & mut_slice (at 7) m.work_wires & mut_slice (at 8) m.work_coefs & tt
 
 -- of these bytes and rooms, wherever they lie, it may answer so and leave the rooms so
 pub record CompilePermits (tree : List ℕ) (m : Rooms) (answer : Compiled) (left : Rooms) : Type 0 where
@@ -65,8 +69,8 @@ pub record CompilePermits (tree : List ℕ) (m : Rooms) (answer : Compiled) (lef
 abbrev pub tick_given : (κs : Lfts 11) → (ℕ → Place) → Stored → List ℕ → Lent → Dens κs tick-kinds.ps
 tick_given κs at s row m =
     s.counts & slice (at 0) s.nums & slice (at 1) s.biases & slice (at 2) s.wires & slice (at 3) s.coefs & slice (at 4) row
-    & slice (at 5) m.flags & slice (at 6) m.cursors & slice (at 7) m.values
-    & slice (at 8) m.statuses & slice (at 9) m.halts & slice (at 10) m.edges & tt
+    & mut_slice (at 5) m.flags & mut_slice (at 6) m.cursors & mut_slice (at 7) m.values
+    & mut_slice (at 8) m.statuses & mut_slice (at 9) m.halts & mut_slice (at 10) m.edges & tt
 
 -- of this circuit, row and what is lent, wherever it lies, it may answer and leave this
 pub record TickPermits (s : Stored) (row : List ℕ) (m : Lent) (o : Outcome) : Type 0 where

@@ -9,7 +9,7 @@ use native.Mathlib.Omega.{arith}
 use lib.IntN.{ℤ, pos, negsuc}
 use lib.Dec.{T, ltb, ltb→lt, leb→le, le→leb}
 use lib.Pow.{pow_pos}
-use lib.Ieee.{Float, fin, binary32, up, down, add, sub, le, eq, fits}
+use lib.Ieee.{Float, fin, binary32, up, down, add, sub, le, eq, fits, nan, inf}
 use lib.Ieee.Fits.{and_i, and_l, and_r, eq→eqb, add-fits}
 use lib.Ieee.Exact.{HasValue}
 use lib.Ieee.Positive.{positive, own_value, positive_of_value, values_of_le, between}
@@ -73,6 +73,9 @@ unfolding natural
 high_natural a A B (fin false m e) t p h =
     let k : a * down e ≤ m * up e * 1 = values_of_le (diff binary32 a 0) (fin false m e) a 1 (m * up e) (down e) (count_positive a (omega arith) B) p (count_value binary32 a B) (own_value (fin false m e) p) h in
     eq→eqb (no_fraction a m e A t (omega arith))
+high_natural a A B nan t p h = elim p [ ]
+high_natural a A B (inf _) t p h = elim p [ ]
+high_natural a A B (fin true m e) t p h = elim p [ ]
 
 high : (a b : ℕ) → 2 ^ 23 ≤ a → a ≤ b → b ≤ 2 ^ 24 → (y : Float) → T (fits binary32 y) → T (le (diff binary32 a 0) y) → T (le y (diff binary32 b 0)) → (n : ℕ) × (a ≤ n) × (n ≤ b) × (y ≡ diff binary32 n 0)
 high a b A L B y t h k =

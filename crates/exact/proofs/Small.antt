@@ -5,7 +5,7 @@ use Prim.Native.Nat.{ℕ, ◌+◌, ◌-◌, ◌*◌, ◌/◌, ◌%◌, ◌≤◌
 use native.Mathlib.Nat.{div-add-mod', add-zero, mul-one, mul-mod_left, mul-le-mul_right, le_of_mul-le-mul_right, le_trans, le_of_eq}
 use native.Mathlib.Omega.{arith}
 use lib.Dec.{T, ltb, leb, eqb, leb→le, le→leb, eqb→eq}
-use lib.Ieee.{Float, fin, binary32, up, down, add, sub, le, eq, of_bits, round}
+use lib.Ieee.{Float, fin, binary32, up, down, add, sub, le, eq, of_bits, round, nan, inf}
 use lib.Ieee.Fits.{down_pos, and_i, and_l, and_r, eq→eqb}
 use lib.Ieee.Exact.{HasValue}
 use Rattle.exact.specs.Whole.{dist, diff}
@@ -45,6 +45,8 @@ small_is (fin s m e) t =
     let w : m * up e ≡ n * down e = sym (div-add-mod' (m * up e) (down e)) ∙ ap (λ (x : ℕ). n * down e + x) r ∙ add-zero (n * down e) in
     let h : m * up e ≤ 65536 * down e = leb→le (m * up e) (65536 * down e) (and_r (eqb (m * up e % down e) 0) (leb (m * up e) (65536 * down e)) t) in
     (s, n, (refl, mul-one (m * up e) ∙ w), le_of_mul-le-mul_right (le_trans (le_of_eq (sym w)) h) (down_pos e))
+small_is nan t = elim t [ ]
+small_is (inf _) t = elim t [ ]
 
 pub small_of : (x : Float) (s : Bool) (n : ℕ) → HasValue x s n 1 → n ≤ 65536 → T (small x)
 unfolding small
@@ -53,6 +55,8 @@ small_of (fin s' m e) s n v h =
     and_i (eqb (m * up e % down e) 0) (leb (m * up e) (65536 * down e))
     (eq→eqb (ap (λ (k : ℕ). k % down e) w ∙ mul-mod_left n (down e)))
     (le→leb (m * up e) (65536 * down e) (le_trans (le_of_eq w) (mul-le-mul_right (down e) h)))
+small_of nan s n v h = elim v [ ]
+small_of (inf _) s n v h = elim v [ ]
 
 pub small_diff : (p q : ℕ) → p ≤ q + 65536 → q ≤ p + 65536 → T (small (diff binary32 p q))
 small_diff p q h k = small_of (diff binary32 p q) (ltb p q) (dist p q) (diff_value binary32 p q (omega arith)) (omega arith)

@@ -72,6 +72,10 @@ eq_has (fin s m e) (fin t' n d) t b v h =
     go val true true u z k g = inl (u, val)
     go val false true u z k g = inr (false, k g, (refl, val ∙ ap (λ (x : ℕ). x * down e) (k g)))
     go val true false u z k g = inr (true, k g, (refl, val ∙ ap (λ (x : ℕ). x * down e) (k g)))
+eq_has (inf s) nan t b v h = elim v [ ]
+eq_has (inf s) (inf _) t b v h = elim v [ ]
+eq_has (fin s m e) nan t b v h = elim v [ ]
+eq_has (fin s m e) (inf _) t b v h = elim v [ ]
 
 -- ---- a bit: the test `x == 0.0 || x == 1.0`
 
@@ -92,6 +96,8 @@ zero_test (fin s' m e) s r d p v = same_test (level s' (m * up e * 1) false (0 *
     from t =
         let x : m * up e ≡ 0 = eq_of_mul-eq-mul_right d p (m * up e) 0 (v.1 ∙ ap (λ (z : ℕ). z * down e) (eqb→eq r 0 t) ∙ zero-mul (down e) ∙ sym (zero-mul d)) in
         subst (λ (z : ℕ). T (level s' z false (0 * down e))) (sym (mul-one (m * up e) ∙ x)) (subst (λ (z : ℕ). T (level s' 0 false z)) (sym (zero-mul (down e))) (zeros s'))
+zero_test nan s r d p v = elim v [ ]
+zero_test (inf _) s r d p v = elim v [ ]
 
 one_test : (s : Bool) (m : ℕ) (e : ℤ) → eq (fin s m e) one32 ≡ (not s && eqb (m * up e) (down e))
 unfolding eq of_bits
@@ -112,6 +118,7 @@ bit_test (fin s m e) = λ i. zero_test (fin s m e) s (m * up e) (down e) (down_p
 
 or_l : (a b : Bool) → T a → T (a || b)
 or_l true b t = tt
+or_l false b t = elim t [ ]
 
 or_r : (a b : Bool) → T b → T (a || b)
 or_r true b t = tt
@@ -130,6 +137,8 @@ is_bit_lem f x n h c = let w = counts_natural f x n (le_trans h (pow_pos (prec f
             or_r (eqb (m * up e) 0) (not s' && eqb (m * up e) (down e)) (and_i (not s') (eqb (m * up e) (down e)) (subst (λ (b : Bool). T (not b)) (sym q) tt) (eq→eqb (v ∙ one-mul (down e))))
         bit (suc zero) true h z q v = let k : ◌≡◌ {A = ℕ} 1 0 = z tt in absurd (omega arith)
         bit (suc (suc n)) s h z q v = absurd (omega arith)
+    go nan s v z = elim v [ ]
+    go (inf _) s v z = elim v [ ]
 
 -- ---- a natural number
 
@@ -150,6 +159,8 @@ natural_is (fin s m e) t =
         nought = λ u. ap (λ (z : ℕ). z * up e / down e) (eqb→eq m 0 (signed s m u (and_l (not s || eqb m 0) (eqb (m * up e % down e) 0) t))) ∙ ap (λ (z : ℕ). z / down e) (zero-mul (up e)) ∙ zero-div (down e);
       },
     )
+natural_is nan t = elim t [ ]
+natural_is (inf _) t = elim t [ ]
 
 pub is_natural : (x : Float) (n : ℕ) → Natural x n → T (natural x)
 unfolding natural
@@ -163,11 +174,15 @@ is_natural x n w = go x w.sign w.value w.nought
         plain : (s : Bool) → (T s → n ≡ 0) → m * up e ≡ n * down e → T (not s || eqb m 0)
         plain false z u = tt
         plain true z u = eq→eqb (eq_of_mul-eq-mul_right (up e) (up_pos e) m 0 (u ∙ ap (λ (k : ℕ). k * down e) (z tt) ∙ zero-mul (down e) ∙ sym (zero-mul (up e))))
+    go nan s v z = elim v [ ]
+    go (inf _) s v z = elim v [ ]
 
 -- its size, of any float that is worth n with either sign
 pub whole_size_lem : (x : Float) (s : Bool) (n : ℕ) → HasValue x s n 1 → whole_size x ≡ n
 unfolding whole_size
 whole_size_lem (fin s' m e) s n v = div-eq_of_eq-mul_left (down_pos e) (sym (mul-one (m * up e)) ∙ v.1)
+whole_size_lem nan s n v = elim v [ ]
+whole_size_lem (inf _) s n v = elim v [ ]
 
 -- one against k, and k against one
 natural_worth : (n : ℕ) (s : Bool) → (T s → n ≡ 0) → Worth s n n 0
@@ -202,12 +217,16 @@ floor_test true m e = ap (λ (z : ℕ). level false z true (m * up e * 1)) (zero
 pub natural_floor : (x : Float) → T (natural x) → T (le zero32 x)
 unfolding natural
 natural_floor (fin s m e) h = subst T (sym (floor_test s m e)) (and_l (not s || eqb m 0) (eqb (m * up e % down e) 0) h)
+natural_floor nan h = elim h [ ]
+natural_floor (inf _) h = elim h [ ]
 
 -- and what is worth n and not below zero is one
 pub floor_natural : (x : Float) (s : Bool) (n : ℕ) → HasValue x s n 1 → T (le zero32 x) → T s → n ≡ 0
 floor_natural (fin s' m e) s n v h u =
     eq_of_mul-eq-mul_right (down e) (down_pos e) n 0
     (sym v.1 ∙ ap (λ (z : ℕ). z * up e * 1) (eqb→eq m 0 (signed s' m (subst T (sym v.0) u) (subst T (floor_test s' m e) h))) ∙ ap (λ (z : ℕ). z * 1) (zero-mul (up e)) ∙ sym (zero-mul (down e)))
+floor_natural nan s n v h u = elim v [ ]
+floor_natural (inf _) s n v h u = elim v [ ]
 
 -- adding 0.0 takes -0 to 0, and changes no other
 pub plus_zero : (x : Float) (n : ℕ) → n ≤ 2 ^ 24 → Counts binary32 x n → add binary32 x zero32 ≡ diff binary32 n 0

@@ -7,7 +7,7 @@ use native.Mathlib.Nat.{mul-one, mul_assoc, mul_comm, mul-mul-mul_comm, mul-sub,
 use native.Mathlib.Omega.{arith}
 use lib.IntN.{pos}
 use lib.Dec.{T, ltb, leb, eqb, ltb→lt, lt→ltb, nltb→le, eqb→eq, leb→le, le→leb}
-use lib.Ieee.{Float, fin, Format, binary32, prec, up, down, unlike, round, sum, add, sub, neg, mul, below, level, lt, le, eq, of_bits, of_int, fits, in_float, in_unsigned, to_unsigned}
+use lib.Ieee.{Float, fin, Format, binary32, prec, up, down, unlike, round, sum, add, sub, neg, mul, below, level, lt, le, eq, of_bits, of_int, fits, in_float, in_unsigned, to_unsigned, nan, inf}
 use lib.Ieee.Fits.{down_pos, round-fits, and_i, and_l, and_r, eq→eqb}
 use lib.Ieee.Exact.{HasValue}
 use lib.Ieee.Back.{round_whole, whole_unique, unsigned_back}
@@ -78,6 +78,10 @@ add_at f (fin s' m e) (fin t' n d) s t a b v w =
     let c = down e * down d in
     (λ i. sum f (v.0 i) (over_left (m * up e) a (down e) (down d) v.1 i) (w.0 i) (over_right (n * up d) b (down e) (down d) w.1 i) c)
     ∙ sum_scale f s t a b c (mul-pos (down_pos e) (down_pos d))
+add_at f nan y s t a b v w = elim v [ ]
+add_at f (inf _) y s t a b v w = elim v [ ]
+add_at f (fin s' m e) nan s t a b v w = elim w [ ]
+add_at f (fin s' m e) (inf _) s t a b v w = elim w [ ]
 
 mul_at : (f : Format) (x y : Float) (s t : Bool) (a b : ℕ) → HasValue x s a 1 → HasValue y t b 1 → mul f x y ≡ round f (unlike s t) (a * b) 1
 unfolding mul
@@ -85,6 +89,10 @@ mul_at f (fin s' m e) (fin t' n d) s t a b v w =
     let p : m * up e * (n * up d) ≡ a * b * (down e * down d) = ap (λ (z : ℕ). z * (n * up d)) (sym (mul-one (m * up e)) ∙ v.1) ∙ ap (λ (z : ℕ). a * down e * z) (sym (mul-one (n * up d)) ∙ w.1) ∙ mul-mul-mul_comm a (down e) b (down d) in
     (λ i. round f (unlike (v.0 i) (w.0 i)) (p i) (down e * down d))
     ∙ round_scale f (unlike s t) (a * b) (down e * down d) (mul-pos (down_pos e) (down_pos d))
+mul_at f nan y s t a b v w = elim v [ ]
+mul_at f (inf _) y s t a b v w = elim v [ ]
+mul_at f (fin s' m e) nan s t a b v w = elim w [ ]
+mul_at f (fin s' m e) (inf _) s t a b v w = elim w [ ]
 
 below_at : (x y : Float) (s t : Bool) (a b : ℕ) → HasValue x s a 1 → HasValue y t b 1 → lt x y ≡ below s a t b
 unfolding lt
@@ -97,6 +105,10 @@ below_at (fin s' m e) (fin t' n d) s t a b v w =
     scale false true {c} p = refl
     scale true false {c} p = ap (λ (z : ℕ). ltb 0 z) (sym (add-mul a b c)) ∙ (rw zero-mul at (ltb_scale 0 (a + b) c p))
     scale true true {c} p = ltb_scale b a c p
+below_at nan y s t a b v w = elim v [ ]
+below_at (inf _) y s t a b v w = elim v [ ]
+below_at (fin s' m e) nan s t a b v w = elim w [ ]
+below_at (fin s' m e) (inf _) s t a b v w = elim w [ ]
 
 level_at : (x y : Float) (s t : Bool) (a b : ℕ) → HasValue x s a 1 → HasValue y t b 1 → eq x y ≡ level s a t b
 unfolding eq
@@ -108,6 +120,10 @@ level_at (fin s' m e) (fin t' n d) s t a b v w =
   where
     z : {c : ℕ} → 0 < c → eqb (a * c) 0 ≡ eqb a 0
     z {c} p = rw zero-mul at (eqb_scale a 0 c p)
+level_at nan y s t a b v w = elim v [ ]
+level_at (inf _) y s t a b v w = elim v [ ]
+level_at (fin s' m e) nan s t a b v w = elim w [ ]
+level_at (fin s' m e) (inf _) s t a b v w = elim w [ ]
 
 -- ---- signs and sizes
 
@@ -220,6 +236,8 @@ mul_diff f p q r u g e h k =
 neg_value : (x : Float) (s : Bool) (a : ℕ) → HasValue x s a 1 → HasValue (neg x) (not s) a 1
 unfolding neg
 neg_value (fin s' m e) s a v = (ap not v.0, v.1)
+neg_value nan s a v = elim v [ ]
+neg_value (inf _) s a v = elim v [ ]
 
 worth_neg : (s : Bool) (n p q : ℕ) → Worth s n p q → Worth (not s) n q p
 worth_neg false n p q w = w

@@ -1,5 +1,7 @@
 // Whole numbers in f32, exactly: from bytes and cursors to floats and back, and what the tests of one float mean.
 // NaN, the infinities and -0.0 are among the inputs of every function here.
+#![tactic(auto)]
+
 ghost use Rattle.std.specs.Prelude.{◌≡◌, min};
 ghost use Rattle.std.specs.Float.{binary32};
 ghost use Rattle.exact.specs.Whole.{diff};

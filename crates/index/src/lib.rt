@@ -1,8 +1,10 @@
 // Three sorts of number that are kept apart, as `Wire` is in wire.rs: a position in one table is never read in another.
+#![tactic(auto)]
+
 ghost use Rattle.std.specs.Prelude.{◌≡◌};
 
 // A position in a circuit's value table: an input cell or, past the cells, an op's value.
-#[derive(Drop)]
+#[derive(Clone, Copy)]
 pub struct Wire(pub u32);
 
 impl Wire {
@@ -15,7 +17,7 @@ impl Wire {
 }
 
 // A node's number: nodes are numbered from 0 in pre-order.
-#[derive(Drop)]
+#[derive(Clone, Copy)]
 pub struct NodeIndex(pub usize);
 
 impl NodeIndex {
@@ -24,5 +26,5 @@ impl NodeIndex {
 }
 
 // A cursor cell's number: each memory composite owns one, claimed in pre-order.
-#[derive(Drop)]
+#[derive(Clone, Copy)]
 pub struct CursorCell(pub usize);

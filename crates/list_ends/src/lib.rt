@@ -1,4 +1,6 @@
 // The listing program's buffer: bytes that are not read yet move to its front; and what the end of the input prints.
+#![tactic(auto)]
+
 ghost use Rattle.std.specs.Prelude.{◌≡◌, length};
 ghost use Rattle.text.specs.Text.{placed};
 ghost use Rattle.list_ends.specs.Ends.{last_line, unread};

@@ -68,6 +68,7 @@ module _ (m : Rooms) (bytes more : List ℕ) where
     unfolding listing_at begin_at
     at_begins (Whole kind start end) l n = tree_begins storage_lent lent end l.there (take (end - start) (drop start bytes)) (take (end - start) (drop start (bytes ++ more))) (payload_grows bytes more start end l) (eqb kind tree_kind)
     at_begins Bad l n = spoilt
+    at_begins Cut l n = elim n [ ]
 
     begins : NotCut (outer_at bytes 0) → Begins (listing (bytes ++ more)) (begin_of m bytes)
     unfolding listing begin_of

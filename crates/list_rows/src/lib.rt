@@ -1,4 +1,6 @@
 // The listing program's run over leaf rows in a buffer of bytes.
+#![tactic(auto)]
+
 mod row;
 mod rows;
 

@@ -11,7 +11,7 @@ use tick_refusal::of_ticked;
 use wire::Counts;
 
 // How much was written, and whether the run goes on.
-#[derive(Drop)]
+#[derive(Clone, Copy)]
 pub(crate) struct Row {
     pub(crate) wrote: usize,
     pub(crate) goes: bool,

@@ -9,7 +9,7 @@ use list_text::{Line, Outer, outer_at, write_bad};
 use wire::Counts;
 
 // What became of the record that stands first.
-#[derive(Drop)]
+#[derive(Clone, Copy)]
 pub(crate) struct Step {
     pub(crate) read: usize,
     pub(crate) wrote: usize,
@@ -19,7 +19,7 @@ pub(crate) struct Step {
 }
 
 // How far the bytes were read, how much was written, the next tick's number, and whether the run has ended.
-#[derive(Drop)]
+#[derive(Clone, Copy)]
 pub struct Run {
     pub read: usize,
     pub wrote: usize,

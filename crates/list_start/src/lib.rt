@@ -1,4 +1,6 @@
 // The listing program at the front of its input: the record that holds the tree is found, and the tree compiled.
+#![tactic(auto)]
+
 ghost use Rattle.std.specs.Prelude.{◌≡◌};
 ghost use Rattle.compile.specs.declared.Compiled as answers;
 ghost use Rattle.list_machine.specs.Begin.{Rooms, rooms, no_counts, spoils, begin_compiled, begin_tree, begin_of};
@@ -9,7 +11,7 @@ use list_text::{Outer, outer_at, write_bad, write_refused};
 use wire::Counts;
 
 // How many bytes were read, how much was written, whether rows are due, whether the run has ended, and the circuit's counts where rows are due.
-#[derive(Drop)]
+#[derive(Clone, Copy)]
 pub struct Begun {
     pub read: usize,
     pub wrote: usize,

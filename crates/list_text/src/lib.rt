@@ -1,5 +1,7 @@
 // What the listing program reads and prints: outer records, and a tick's line, a refusal's and that of a bad record, each written into a
 // lent buffer.
+#![tactic(auto)]
+
 mod fields;
 mod outer;
 
@@ -12,7 +14,7 @@ pub use outer::{Outer, outer_at};
 use text::put_line;
 
 // The lengths of lines.
-#[derive(Drop)]
+#[derive(Clone, Copy)]
 pub struct Line {}
 
 impl Line {

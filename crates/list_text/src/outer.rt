@@ -4,7 +4,7 @@ ghost use Rattle.tree_record.specs.Record.{u16_at};
 ghost use Rattle.list_text.specs.Outer.{outer_at};
 
 // What stands at a position: a whole record, or the front of one whose other bytes may still come, or one whose length is below 2.
-#[derive(Drop)]
+#[derive(Clone, Copy)]
 pub enum Outer {
     Whole {
         kind: usize,

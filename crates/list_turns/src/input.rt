@@ -1,19 +1,19 @@
-// Reading from standard input.
+// Reading from the input.
 ghost use Rattle.std.specs.Prelude.{◌+◌, ◌≤◌, length};
 ghost use Rattle.io.specs.Counts.{IsPrefixLen};
 
-use libc::STDIN_FILENO;
 use list_text::{Outer, outer_at};
+use std::io::Read;
 
 // Reads until the record that stands first is whole or bad, or the input ends, and answers how many bytes are there. Nothing says that the input
 // ends, so the turns are counted down from a number that no run uses up.
-pub fn read_front(buffer: &mut [u8]) -> usize
+pub fn read_front<R: Read>(input: &mut R, buffer: &mut [u8]) -> usize
     ensures { IsPrefixLen result buffer.new }
 {
     let mut have: usize = 0;
     let mut turns = u64::MAX;
     while turns > 0 && is_cut(&buffer[..have]) {
-        let more = read_some(buffer, have);
+        let more = read_some(input, buffer, have);
         if more == 0 {
             return have;
         }
@@ -24,18 +24,21 @@ pub fn read_front(buffer: &mut [u8]) -> usize
 }
 
 // One read behind the bytes that are there, and how many came: none at the end of the input.
-pub(crate) fn read_some(buffer: &mut [u8], have: usize) -> usize
+pub(crate) fn read_some<R: Read>(input: &mut R, buffer: &mut [u8], have: usize) -> usize
     requires { have ≤ length buffer.old }
     ensures { have + result ≤ length buffer.old }
 {
-    read_once(&mut buffer[have..])
+    read_once(input, &mut buffer[have..])
 }
 
-fn read_once(rest: &mut [u8]) -> usize
+// A read that fails ends the input.
+fn read_once<R: Read>(input: &mut R, rest: &mut [u8]) -> usize
     ensures { result ≤ length rest.old }
 {
-    let got = libc::read(STDIN_FILENO, rest);
-    io::count(got, rest)
+    match input.read(rest) {
+        Ok(got) => got,
+        Err(_) => 0,
+    }
 }
 
 // Whether the record that stands first still lacks bytes.

@@ -1,5 +1,7 @@
-// The listing program's turns: bytes are read from standard input, the rows are listed as they come, and lines are written to standard output.
-// Nothing is promised of what the C library's read and write do, so the contracts here speak of lengths alone.
+// The listing program's turns: bytes are read from a reader, the rows are listed as they come, and lines are written to standard output.
+// Nothing is promised of what a read gives or what the C library's write does, so the contracts here speak of lengths alone.
+#![tactic(auto)]
+
 mod input;
 mod output;
 mod rows;

@@ -1,13 +1,14 @@
 // Writing to standard output.
-use libc::STDOUT_FILENO;
 use list_ends::finish;
+
+const STDOUT: i32 = 1;
 
 // Writes the first so many bytes, and answers whether they were taken. A text longer than its buffer was not put there.
 pub(crate) fn show(out: &[u8], wrote: usize) -> bool {
     if out.len() < wrote {
         return false;
     }
-    io::write_all(STDOUT_FILENO, &out[..wrote])
+    io::write_all(STDOUT, &out[..wrote])
 }
 
 // Writes what the end of the input asks for where so many bytes are left.

@@ -5,10 +5,11 @@ use crate::input::read_some;
 use crate::output::{show, show_last};
 use list_ends::move_down;
 use list_rows::list_rows;
+use std::io::Read;
 use wire::Counts;
 
 // The bytes that are not listed yet lie in the buffer between two positions; the next tick's number; whether the run goes on.
-#[derive(Drop)]
+#[derive(Clone, Copy)]
 struct Turn {
     at: usize,
     end: usize,
@@ -18,7 +19,8 @@ struct Turn {
 
 // Goes on after the front of the input, of which the first bytes of `out` are the line that it asked for: lists the rows where they are due. Where
 // they are not and the run has not ended, the input ended inside the tree's record or before it.
-pub fn go_on(
+pub fn go_on<R: Read>(
+    input: &mut R,
     out: &[u8],
     wrote: usize,
     goes: bool,
@@ -34,14 +36,17 @@ pub fn go_on(
 ) {
     show(out, wrote);
     if goes {
-        list_all(buffer, from, have, counts, nums, biases, wires, coefs);
+        list_all(
+            input, buffer, from, have, counts, nums, biases, wires, coefs,
+        );
     } else if !ended {
         show_last(1);
     }
 }
 
 // Lists all rows, of which the bytes between two positions of the buffer are there.
-fn list_all(
+fn list_all<R: Read>(
+    input: &mut R,
     buffer: &mut [u8],
     from: usize,
     have: usize,
@@ -61,6 +66,7 @@ fn list_all(
     let mut cursors = [0u32; 128];
     let mut values = values_room();
     take_turns(
+        input,
         buffer,
         from,
         have,
@@ -81,7 +87,8 @@ fn values_room() -> [f32; 2803] {
 }
 
 // Nothing says that the input ends, so the turns are counted down from a number that no run uses up.
-fn take_turns(
+fn take_turns<R: Read>(
+    input: &mut R,
     buffer: &mut [u8],
     from: usize,
     have: usize,
@@ -102,7 +109,8 @@ fn take_turns(
     let mut turns = u64::MAX;
     while turns > 0 {
         let turn = take_turn(
-            buffer, at, end, number, counts, nums, biases, wires, coefs, flags, cursors, values,
+            input, buffer, at, end, number, counts, nums, biases, wires, coefs, flags, cursors,
+            values,
         );
         if !turn.goes {
             return;
@@ -115,7 +123,8 @@ fn take_turns(
 }
 
 // Lists the rows that are there whole. Where there is none, reads on.
-fn take_turn(
+fn take_turn<R: Read>(
+    input: &mut R,
     buffer: &mut [u8],
     at: usize,
     end: usize,
@@ -148,7 +157,7 @@ fn take_turn(
     let next = listed.number;
     let goes = listed.goes;
     if goes && read == 0 {
-        return read_on(buffer, at, end, next);
+        return read_on(input, buffer, at, end, next);
     }
     Turn {
         at: at + read,
@@ -197,11 +206,11 @@ fn list_some(
 }
 
 // Moves the bytes that are not listed yet to the front and reads once behind them. At the end of the input they are all there is.
-fn read_on(buffer: &mut [u8], at: usize, end: usize, number: u64) -> Turn
+fn read_on<R: Read>(input: &mut R, buffer: &mut [u8], at: usize, end: usize, number: u64) -> Turn
     ensures { (result.at ≤ result.end) × (result.end ≤ length buffer.old) }
 {
     let left = move_down(buffer, at, end);
-    let more = read_some(buffer, left);
+    let more = read_some(input, buffer, left);
     if more == 0 {
         show_last(left);
     }

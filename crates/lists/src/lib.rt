@@ -1,1 +1,2 @@
 // Definitions and laws alone: lists by index, written entry after entry, tested at every index, stored one after the other.
+#![tactic(auto)]

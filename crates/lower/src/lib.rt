@@ -1,4 +1,6 @@
 // compile: from a tree's bytes to a circuit in lent storage.
+#![tactic(auto)]
+
 ghost use Rattle.std.specs.Prelude.{◌≡◌, length};
 ghost use Rattle.compile.specs.Compile.{lent, compile_of};
 ghost use Rattle.lower_emit.specs.Settle.{outcome, zeros, zeros32};

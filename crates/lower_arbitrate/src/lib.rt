@@ -1,4 +1,6 @@
 // arbitrate: from the last node to the first, what each would return if it were ticked.
+#![tactic(auto)]
+
 mod composites;
 mod nodes;
 mod state;

@@ -22,6 +22,7 @@ module _ (m : Mem) (b : Builder) (base : ℕ) (p : StatusBits Affine → Affine)
   stack_falls (t ∷ ts) (suc n) top l e h =
       let k : top ≡ base + length (map p ts) = omega (arith, e (omega arith), length-map ts p) in
       (rw k h.0, stack_falls ts n (top - 1) (omega arith) (λ q. omega (arith, e (omega arith))) h.1)
+  stack_falls [] (suc n) top l e h = elim l [ ]
 
   -- the rest
   pub stack_rest : (ts : List (StatusBits Affine)) (n : ℕ) → StackAt m b base (map p ts) → StackAt m b base (map p (drop n ts))

@@ -1,4 +1,6 @@
 // The building phase: the circuit of a tree in what is lent, from an empty arena and no ops.
+#![tactic(auto)]
+
 ghost use Rattle.std.specs.Prelude.{◌≡◌, ◌≤◌, length};
 ghost use Rattle.builder_table.specs.Work.{Whole, mem, stood};
 ghost use Rattle.lower_passes.specs.Build.{build_in};

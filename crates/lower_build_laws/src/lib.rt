@@ -1,1 +1,2 @@
 // Definitions and laws alone: accepted bytes are nodes that find their children, and building leaves their circuit.
+#![tactic(auto)]

@@ -1,4 +1,6 @@
 // What stands around building in compile: whether enough is lent, the plan's lists, the refusals for want of slots, and zeroing.
+#![tactic(auto)]
+
 mod emit;
 
 ghost use Rattle.std.specs.Prelude.{◌≡◌, ◌≤◌, ◌<◌, length};
@@ -90,7 +92,7 @@ pub fn wipe_work(nums: &mut [usize], biases: &mut [f32], wires: &mut [u32], coef
 // ---- the plan's lists
 
 // How many leaf slots and cursor cells there are.
-#[derive(Drop)]
+#[derive(Clone, Copy)]
 pub struct Listed {
     pub leaves: usize,
     pub cursors: usize,

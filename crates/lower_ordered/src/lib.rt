@@ -1,4 +1,6 @@
 // lower_ordered: one walk over an ordered composite's children, from what each would return.
+#![tactic(auto)]
+
 mod gates;
 mod stops;
 

@@ -30,13 +30,13 @@ module _ (n : ℕ) where
   pub clears_count : (pre : Affine) (xs : List (GatedChild Affine)) (os : List (Op Affine)) → length (clears floats n pre xs os).items ≡ length xs
   unfolding clears
   clears_count pre [] os = refl
-  clears_count pre (x ∷ xs) os = ap suc (clears_count _ xs _)
+  clears_count pre (x ∷ xs) os = ap suc (clears_count (floats.plus pre x.blocked) xs _)
 
   pub clears_kids : (part : GatedChild Affine → Affine) (pre : Affine) (xs : List (GatedChild Affine)) (os : List (Op Affine))
       → map (λ (x : ClearedChild Affine). part x.child) (clears floats n pre xs os).items ≡ map part xs
   unfolding clears
   clears_kids part pre [] os = refl
-  clears_kids part pre (x ∷ xs) os = ap (part x ∷◌) (clears_kids part _ xs _)
+  clears_kids part pre (x ∷ xs) os = ap (part x ∷◌) (clears_kids part (floats.plus pre x.blocked) xs _)
 
 -- ---- one child
 
@@ -83,7 +83,7 @@ clears_run {n} {m} {b} {os} {earlier} {pre} k (x ∷ xs) r hp hb l =
     let rows = rows_kept one.runs.keeps (suc (blocked_from + k)) (blockeds xs) (omega arith) (λ j d e u v. omega arith) hb.1 in
     let e1 : suc (blocked_from + k) ≡ blocked_from + (k + 1) = omega arith in
     let e2 : suc (clear_from + k) ≡ clear_from + (k + 1) = omega arith in
-    let all = clears_run (k + 1) xs r1 one.form (rw (← e1) rows) (omega arith) in
+    let all = clears_run {m = (clear_in m b earlier k).mem} (k + 1) xs r1 one.form (rw (← e1) rows) (omega arith) in
     record {
       runs = runs_wide (runs_then one.runs (runs_less all.runs (λ j h u v. h (omega arith) (omega arith)))) _ _ (omega arith) (omega arith);
       clear = (slot_kept all.runs.keeps (clear_from + k) (omega arith) (λ u v. omega arith) one.slot, rw e2 all.clear);

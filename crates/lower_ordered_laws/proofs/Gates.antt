@@ -115,7 +115,7 @@ gates_run {n} {m} {b} {os} {cursor} {c} top k (t ∷ ts) r hc ht a l =
     let e : top - (k + 1) ≡ top - k - 1 = omega arith in
     let e0 : suc (before_from + k) ≡ before_from + (k + 1) = omega arith in
     let e1 : suc (blocked_from + k) ≡ blocked_from + (k + 1) = omega arith in
-    let all = gates_run top (k + 1) ts r1 (stands_after one.runs hc) (rw e falls) a (omega arith) in
+    let all = gates_run {m = (gate_in m b cursor (loaded m (top - k)) k).mem} top (k + 1) ts r1 (stands_after one.runs hc) (rw e falls) a (omega arith) in
     let keep = all.runs.keeps in
     record {
       runs = runs_wide (runs_then one.runs (runs_less all.runs (λ j h. ((λ u v. h.0 (omega arith) (omega arith)), (λ u v. h.1 (omega arith) (omega arith)))))) _ _ (omega arith) (omega arith);

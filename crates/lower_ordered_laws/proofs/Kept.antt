@@ -56,6 +56,8 @@ module _ {K : ℕ → Type 0} {m : Mem} {b : Builder} {m' : Mem} {b' : Builder} 
       → All K reach_from (reach_from + rows_in ns) → All K after_stop_from (after_stop_from + rows_in ns) → ArbitrationsAt m b i ns xs → ArbitrationsAt m' b' i ns xs
   unfolding rows_in
   infos_kept i [] [] l w q qr qa h = tt
+  infos_kept i [] (x ∷ xs) l w q qr qa h = elim h [ ]
+  infos_kept i (n ∷ ns) [] l w q qr qa h = elim h [ ]
   infos_kept i (n ∷ ns) (x ∷ xs) l w q qr qa h = (
     info_kept i (rows_in (n ∷ ns)) n x (omega arith) (omega arith) w (q i (omega arith) (omega arith)) (λ k s t. qr k (omega arith) t) (λ k s t. qa k (omega arith) t) h.0,
     infos_kept (suc i) ns xs (omega arith) (omega arith) (λ j s t. q j (omega arith) (omega arith)) (λ k s t. qr k s (omega arith)) (λ k s t. qa k s (omega arith)) h.1,

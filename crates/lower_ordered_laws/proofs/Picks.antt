@@ -94,5 +94,5 @@ picks_run {n} {m} {p} {os} {o} {r} {c} others runs k (x ∷ xs) q ho hr hc hs hx
     let e0 : suc (stops_from + k) ≡ stops_from + (k + 1) = omega arith in
     let e1 : others - (k + 1) ≡ others - k - 1 = omega arith in
     let e2 : runs - (k + 1) ≡ runs - k - 1 = omega arith in
-    let all = picks_run others runs (k + 1) xs q1 one.other one.run one.cursor (rw (← e0) ks) (rw e1 kx) (rw e2 ky) d e (omega arith) in
+    let all = picks_run {m = (pick_in m p k (loaded m (others - k)) (loaded m (runs - k))).mem} others runs (k + 1) xs q1 one.other one.run one.cursor (rw (← e0) ks) (rw e1 kx) (rw e2 ky) d e (omega arith) in
     record { runs = runs_wide (runs_then one.runs all.runs) _ _ (omega arith) (omega arith); other = all.other; run = all.run; cursor = all.cursor })

@@ -38,13 +38,14 @@ module _ (n : ℕ) where
   pub stops_count : (acc : Affine) (xs : List (ClearedChild Affine)) (os : List (Op Affine)) → length (stops floats n acc xs os).items ≡ length xs
   unfolding stops
   stops_count acc [] os = refl
-  stops_count acc (x ∷ xs) os = ap suc (stops_count _ xs _)
+  stops_count acc (x ∷ xs) os = ap suc (stops_count (floats.plus acc (and floats n x.clear x.child.blocked (and floats n x.clear (not' floats x.child.before) os).ops).form) xs _)
 
   pub stops_trips : (part : StatusBits Affine → Affine) (acc : Affine) (xs : List (ClearedChild Affine)) (os : List (Op Affine))
       → map (λ (x : ArbitratedChild Affine). part x.status) (stops floats n acc xs os).items ≡ map (λ (x : ClearedChild Affine). part x.child.status) xs
   unfolding stops
   stops_trips part acc [] os = refl
-  stops_trips part acc (x ∷ xs) os = ap (part x.child.status ∷◌) (stops_trips part _ xs _)
+  stops_trips part acc (x ∷ xs) os = ap (part x.child.status ∷◌)
+      (stops_trips part (floats.plus acc (and floats n x.clear x.child.blocked (and floats n x.clear (not' floats x.child.before) os).ops).form) xs _)
 
 -- ---- one child
 
@@ -153,7 +154,8 @@ stops_run {n} {m} {b} {os} {sum} {acc} row k (x ∷ xs) r ha hb hd hc l =
     let e3 : suc (stops_from + k) ≡ stops_from + (k + 1) = omega arith in
     let e4 : suc (reach_from + (row + k)) ≡ reach_from + (row + (k + 1)) = omega arith in
     let e5 : suc (after_stop_from + (row + k)) ≡ after_stop_from + (row + (k + 1)) = omega arith in
-    let all = stops_run row (k + 1) xs r1 one.form (rw (← e0) kb) (rw (← e1) kd) (rw (← e2) kc) (omega arith) in
+    let turned = reach_in (saved m (after_stop_from + (row + k)) sum) b k (row + k) in
+    let all = stops_run {m = (stop_in turned.mem turned.builder sum k).mem} row (k + 1) xs r1 one.form (rw (← e0) kb) (rw (← e1) kd) (rw (← e2) kc) (omega arith) in
     let keep = all.runs.keeps in
     record {
       runs = runs_wide (runs_then (runs_less one.runs (λ j h. ((λ u. h.0 (omega arith) (omega arith)), (λ u. h.1 (omega arith) (omega arith)), (λ u. h.2 (omega arith) (omega arith)))))

@@ -1,9 +1,11 @@
 // Where the passes of lowering stand, and what they answer: plain structs, below the code that fills them and the laws about them.
+#![tactic(auto)]
+
 use builder_table::Builder;
 use wire::Form;
 
 // The status that the stop does not advance on, running, the next cursor, and where building stands.
-#[derive(Drop)]
+#[derive(Clone, Copy)]
 pub struct Picked {
     pub other: Form,
     pub run: Form,
@@ -12,7 +14,7 @@ pub struct Picked {
 }
 
 // The composite's bit of the status that it advances on, of the other finished status, of running; its next cursor; and where building stands.
-#[derive(Drop)]
+#[derive(Clone, Copy)]
 pub struct Ordered {
     pub advance: Form,
     pub other: Form,
@@ -22,7 +24,7 @@ pub struct Ordered {
 }
 
 // Where the pass stands: the statuses on the stack, the rows given to children, and the leaf slots and cursor cells still to be given.
-#[derive(Drop)]
+#[derive(Clone, Copy)]
 pub struct Up {
     pub builder: Builder,
     pub depth: usize,
@@ -33,7 +35,7 @@ pub struct Up {
 
 // A node's family. A constant or a Force has its own status, where true stands for success; an ordered composite may have a cursor, and has the
 // status that it advances on and its child count.
-#[derive(Drop)]
+#[derive(Clone, Copy)]
 pub enum Flat {
     Leaf,
     Fixed(bool),
@@ -43,7 +45,7 @@ pub enum Flat {
 }
 
 // Where the pass stands: the entries on the stack, the rows of children still to come, and the cursor cells passed.
-#[derive(Drop)]
+#[derive(Clone, Copy)]
 pub struct Down {
     pub builder: Builder,
     pub depth: usize,

@@ -4,7 +4,7 @@ use native.Mathlib.Omega.{arith}
 use mathlib.Core.Path.{◌≡◌, ap}
 use Rattle.wire.specs.declared.Form.{Form}
 use Rattle.builder_table.specs.declared.Builder.{Builder}
-use Rattle.builder_table.specs.Work.{Mem, mem, Ended, loaded, Stood}
+use Rattle.builder_table.specs.Work.{Mem, Ended, loaded, Stood}
 use Rattle.builder.specs.Bits.{and_in, or_in}
 use Rattle.builder_table.specs.Slots.{reach_from, after_stop_from}
 use Rattle.lower_passes.specs.Reach.{entry_in, spread_one_in, spread_in}

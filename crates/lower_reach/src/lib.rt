@@ -1,4 +1,6 @@
 // reach: from the first node to the last, whether each is ticked or halted. A node that asks for what is not there lowers the flag.
+#![tactic(auto)]
+
 mod spreads;
 mod visits;
 

@@ -10,7 +10,7 @@ use lower_passes::Down;
 use wire::Form;
 
 // Whether the node is reached and whether it is halted, and where building stands.
-#[derive(Drop)]
+#[derive(Clone, Copy)]
 pub struct Entered {
     pub reached: Form,
     pub halted: Form,

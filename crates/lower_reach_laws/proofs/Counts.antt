@@ -32,7 +32,7 @@ module _ {F : Type 0} (A : Forms F) (opsAt cursorsAt : ℕ) where
   pub outs_count : (i c : ℕ) (xs : List (Arbitration F)) (st : List (Entry F)) (os : List (Op F)) → length (down A opsAt cursorsAt i c xs st os).outs ≡ length xs
   unfolding down
   outs_count i c [] st os = refl
-  outs_count i c (x ∷ xs) st os = ap suc (outs_count _ _ xs _ _)
+  outs_count i c (x ∷ xs) st os = ap suc (outs_count (suc i) _ xs _ _)
 
   pub next_count : (n : Flat) (c : ℕ) (r u x : F) (os : List (Op F)) → length (next_cur A opsAt cursorsAt n c r u x os).items + c ≡ cell_after n c
   unfolding next_cur

@@ -70,7 +70,7 @@ unfolding flags flags_use
 flags_from {m = m} {b = b} r i cursorsAt [] h l = rw (flags_none m b i) (record { runs = runs_none r; rows = tt })
 flags_from {n} {m} {b} {os} r i cursorsAt (x ∷ xs) h l =
     let f = flag_law r i x h.0 (omega arith) in
-    let t = flags_from (ready_after f.runs r) (suc i) cursorsAt xs (outs_kept f.runs.keeps (suc i) xs (omega arith) (λ j p q. flags_apart i j (omega arith)) h.1) (omega arith) in
+    let t = flags_from {m = (flag_in m b i).mem} (ready_after f.runs r) (suc i) cursorsAt xs (outs_kept f.runs.keeps (suc i) xs (omega arith) (λ j p q. flags_apart i j (omega arith)) h.1) (omega arith) in
     rw (flags_more m b i (length xs)) (record {
       runs = runs_wide (runs_then f.runs (runs_less t.runs (λ k q p s. q (omega arith) s))) _ _ (omega arith) (omega arith);
       rows = (slot_kept t.runs.keeps (next_running_from + i) (omega arith) (omega arith) f.flag, rw (add-suc next_running_from i) at t.rows);

@@ -196,6 +196,8 @@ module _ (m : Mem) (b : Builder) where
   infos_nodes : (i : ℕ) (ns : List Flat) (xs : List (Arbitration Affine)) → ArbitrationsAt m b i ns xs → map (λ (x : Arbitration Affine). x.node) xs ≡ ns
   infos_nodes i [] [] h = refl
   infos_nodes i (n ∷ ns) (x ∷ xs) h = λ j. h.0.node j ∷ infos_nodes (suc i) ns xs h.1 j
+  infos_nodes i [] (x ∷ xs) h = elim h [ ]
+  infos_nodes i (n ∷ ns) [] h = elim h [ ]
 
   pub reach_outs : (ns : List Flat) (infos : List (Arbitration Affine)) (es : List (Entry Affine)) (os : List (Op Affine)) → ArbitrationsAt m b 0 ns infos
       → length (L.down floats b.cells (length ns) 0 0 infos es os).outs ≡ length ns

@@ -116,7 +116,7 @@ module _ {n : ℕ} {f g : Form} {r h : Affine} (cursorsAt row : ℕ) (es : List 
       let er : suc (reach_from + (row + k)) ≡ reach_from + (row + (k + 1)) = omega arith in
       let ea : suc (after_stop_from + (row + k)) ≡ after_stop_from + (row + (k + 1)) = omega arith in
       let rest =
-      spread_from (ready_after o.runs z) (stands_after o.runs hr) (stands_after o.runs hh) (k + 1) xs (omega arith) (omega arith)
+      spread_from {m = s.mem} (ready_after o.runs z) (stands_after o.runs hr) (stands_after o.runs hh) (k + 1) xs (omega arith) (omega arith)
       (subst (λ (j : ℕ). Rows s.mem s.builder j (reaches xs)) er p')
       (subst (λ (j : ℕ). Rows s.mem s.builder j (afters xs)) ea q')
       (entries_kept g' es (omega arith) (λ j a c. omega arith) (λ j a c. omega arith) t) in

@@ -1,4 +1,6 @@
 // reach, of one node: whether it is halted or left as it was, its next cursor, and its next running flag.
+#![tactic(auto)]
+
 mod cursors;
 mod flags;
 mod halts;

@@ -1,1 +1,2 @@
 // Definitions and laws alone: how many ops, terms and how much work room a tree takes at most.
+#![tactic(auto)]

@@ -1,4 +1,6 @@
 // Lowering: the tree of some bytes, read, built and written, once the circuit's storage is zero and enough is lent.
+#![tactic(auto)]
+
 ghost use Rattle.std.specs.Prelude.{◌≡◌, true, ◌≤◌, length};
 ghost use Rattle.tree.specs.Tree.{accepted, tree_of};
 ghost use Rattle.compile.specs.Compile.{lent, roomy, compile_tree};

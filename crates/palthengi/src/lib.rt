@@ -1,4 +1,6 @@
 // Compile, the check for 17, validation and the tick for callers in C: numbers and slices in, a number or a struct out. include/palthengi.h declares them.
+#![tactic(auto)]
+
 ghost use Rattle.std.specs.Prelude.{◌≡◌, length};
 ghost use Rattle.tick_check.specs.Check.{stored, circuit_ok};
 ghost use Rattle.validate.specs.Validate.{validate_of};
@@ -14,8 +16,7 @@ use compile::Compiled;
 use tick_refusal::{Refusal, of_ticked, of_validated};
 use wire::Counts;
 
-#[unsafe(no_mangle)]
-pub extern "C" fn palthengi_check(
+pub fn palthengi_check(
     counts: Counts,
     nums: &[u32],
     biases: &[f32],
@@ -28,8 +29,7 @@ pub extern "C" fn palthengi_check(
     if good { 0 } else { 17 }
 }
 
-#[unsafe(no_mangle)]
-pub extern "C" fn palthengi_validate(
+pub fn palthengi_validate(
     counts: Counts,
     nums: &[u32],
     biases: &[f32],
@@ -42,8 +42,7 @@ pub extern "C" fn palthengi_validate(
     of_validated(validate::validate(counts, nums, biases, wires, coefs, table))
 }
 
-#[unsafe(no_mangle)]
-pub extern "C" fn palthengi_tick(
+pub fn palthengi_tick(
     counts: Counts,
     nums: &[u32],
     biases: &[f32],
@@ -70,7 +69,7 @@ pub extern "C" fn palthengi_tick(
 
 // Document 01's number, 0 where the tree is compiled; the kind that 4 carries; the place; the counts of the circuit, all 0 where it is refused.
 #[repr(C)]
-#[derive(Drop)]
+#[derive(Clone, Copy)]
 pub struct Compilation {
     pub number: u32,
     pub kind: u32,
@@ -112,8 +111,7 @@ fn refused(refusal: tree_record::Refusal) -> Compilation
     }
 }
 
-#[unsafe(no_mangle)]
-pub extern "C" fn palthengi_compile(
+pub fn palthengi_compile(
     tree: &[u8],
     nums: &mut [u32],
     biases: &mut [f32],

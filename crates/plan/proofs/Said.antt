@@ -5,7 +5,7 @@ use mathlib.Core.List.{List, [], ◌∷◌, ◌++◌, append_assoc, append-nil}
 use Prim.Native.Nat.{ℕ, suc, ◌+◌}
 use native.Mathlib.Omega.{arith}
 use lib.ListN.{length, set, length-append}
-use lib.Seq.{sets, length-sets}
+use lib.Seq.{sets}
 
 sets_snoc : (l xs : List ℕ) (i x : ℕ) → sets l i (xs ++ x ∷ []) ≡ set (sets l i xs) (i + length xs) x
 sets_snoc l [] i x = let e : i + 0 ≡ i = omega arith in rw e
@@ -38,9 +38,6 @@ said_more {whole} {entry} {now} {done} x rest s =
 -- what is left to write may be said otherwise
 pub said_as : {whole entry now : List ℕ} {done : ℕ} (rest rest' : List ℕ) → rest ≡ rest' → Said whole entry now done rest → Said whole entry now done rest'
 said_as rest rest' e s = record { said = s.said; long = s.long; written = s.written; all = s.all ∙ ap (λ (r : List ℕ). s.said ++ r) e }
-
-pub said_length : {whole entry now rest : List ℕ} {done : ℕ} → Said whole entry now done rest → length now ≡ length entry
-said_length {whole} {entry} s = ap length s.written ∙ length-sets entry 0 s.said
 
 pub said_all : {whole entry now : List ℕ} {done : ℕ} → Said whole entry now done [] → (done ≡ length whole) × (now ≡ sets entry 0 whole)
 said_all {whole} {entry} s =

@@ -6,7 +6,7 @@ ghost use Rattle.plan.specs.Cells.{offset_of, wire};
 use index::{CursorCell, NodeIndex, Wire};
 
 // How many nodes, cursors and leaves a tree has: all that the cells' places hang on.
-#[derive(Drop)]
+#[derive(Clone, Copy)]
 pub struct Plan {
     pub nodes: usize,
     pub cursors: usize,
@@ -14,7 +14,7 @@ pub struct Plan {
 }
 
 // What a leaf answers.
-#[derive(Drop)]
+#[derive(Clone, Copy)]
 pub enum Status {
     Success,
     Failure,

@@ -1,4 +1,6 @@
 // plan.rs: which node each leaf slot and each cursor cell belongs to, the order of reports, and where each input cell lies.
+#![tactic(auto)]
+
 mod cells;
 mod lists;
 

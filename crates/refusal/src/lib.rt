@@ -1,4 +1,6 @@
 // Refusals as text: a line such as `refused 4 at 0: Sleep is never lowered`, written into a lent buffer.
+#![tactic(auto)]
+
 ghost use Rattle.std.specs.Prelude.{◌≡◌, ◌+◌, ◌≤◌, ◌++◌, length, take};
 ghost use Rattle.text.specs.Text.{placed};
 ghost use Rattle.refusal.specs.Line.{heading, name_of, line_of, words_of};
@@ -8,7 +10,7 @@ use tree_kinds::row_of;
 use tree_record::{Cause, Refusal};
 
 // What is said of a cause, in the first `chars` bytes of `text`.
-#[derive(Drop)]
+#[derive(Clone, Copy)]
 struct Words {
     text: [u8; 29],
     chars: u8,

@@ -1,6 +1,6 @@
 // A case: a tree's bytes, and what is due for them.
+use crate::case_lists::lists_at;
 use crate::lines::{Seen, letter, line_at, line_end, next_line, read_hex, short, values_are};
-use crate::lists::lists_at;
 use crate::room;
 use crate::ticks::ticks_at;
 use compile::Compiled;
@@ -24,7 +24,7 @@ pub(crate) fn case_at(text: &[u8], from: usize) -> Seen {
 }
 
 // How many bytes a tree has, and where the lines go on.
-#[derive(Drop)]
+#[derive(Clone, Copy)]
 pub(crate) struct Bytes {
     pub(crate) size: usize,
     pub(crate) next: usize,

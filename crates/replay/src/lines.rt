@@ -47,7 +47,7 @@ pub(crate) fn up_to_line(text: &[u8], from: usize) -> &[u8] {
 }
 
 // How far the text was read, and whether all of that was so; if not, the line that was not begins there.
-#[derive(Drop)]
+#[derive(Clone, Copy)]
 pub(crate) struct Seen {
     pub(crate) at: usize,
     pub(crate) so: bool,
@@ -146,7 +146,7 @@ pub(crate) fn read_values(line: &[u8], due: u8, list: &mut [u32], count: usize) 
 }
 
 // A number and the position after it; position 0 where there is none.
-#[derive(Drop)]
+#[derive(Clone, Copy)]
 pub struct Number {
     pub value: u32,
     pub next: usize,

@@ -1,9 +1,11 @@
 // Replays the stored cases from standard input on the proved crates, with nothing else at hand: each case's bytes are compiled; its refusal, or
 // its lists, its counts and each of its ticks, are compared with what the lines say. Prints how many cases and ticks there are and `ok`, or the
 // first line that is not so. The head of the stored cases explains the lines; a line that is missing or out of turn is not so either.
+#![tactic(auto)]
+
+mod case_lists;
 mod cases;
 mod lines;
-mod lists;
 mod room;
 mod ticks;
 

@@ -1,4 +1,6 @@
 // status.rs: the three-valued status, as bits. All three 0 is a node that was not ticked.
+#![tactic(auto)]
+
 ghost use Rattle.std.specs.Prelude.{◌≡◌, List, true, ℕ, Float};
 ghost use Rattle.builder_table.specs.Work.{mem, ended};
 ghost use Rattle.status.specs.Bits.{unticked_bits, with_bit, inverted_bits, finished_in, forced_bits};
@@ -7,14 +9,14 @@ ghost use Rattle.builder.specs.Bits.{bit_form};
 use builder::{Bit, Decided};
 use builder_table::Builder;
 
-#[derive(Drop)]
+#[derive(Clone, Copy)]
 pub enum Status {
     Success,
     Failure,
     Running,
 }
 
-#[derive(Drop)]
+#[derive(Clone, Copy)]
 pub struct StatusBits {
     pub success: Bit,
     pub failure: Bit,

@@ -1,4 +1,6 @@
 // Text in a lent buffer: a part, or a number, put after what stands there, and a whole line. Inner: the first two ask for the room they need.
+#![tactic(auto)]
+
 ghost use Rattle.std.specs.Prelude.{◌≡◌, ◌+◌, ◌≤◌, length};
 ghost use Rattle.text.specs.Text.{decimal, placed, Appended};
 

@@ -1,4 +1,6 @@
 // One tick of a lent circuit, which may hold anything, from any state and on any row.
+#![tactic(auto)]
+
 ghost use Rattle.std.specs.Prelude.{◌≡◌};
 ghost use Rattle.tick_check.specs.Check.{stored};
 ghost use Rattle.tick_lane.specs.Lane.{lent, outcome};

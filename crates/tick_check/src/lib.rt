@@ -1,4 +1,6 @@
 // The check for 17: whether lent storage, which may hold anything, is a circuit.
+#![tactic(auto)]
+
 ghost use Rattle.std.specs.Prelude.{◌≡◌, ◌+◌, ◌*◌, ◌≤◌, ◌<◌, length};
 ghost use Rattle.wire.specs.Storage.{ops_from, op_biases_from, output_count};
 ghost use Rattle.wire.specs.Held.{Held};

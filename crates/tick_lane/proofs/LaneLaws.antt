@@ -3,6 +3,7 @@ use mathlib.Core.Path.{◌≡◌, refl, sym, ap, ◌∙◌}
 use mathlib.Core.List.{List, [], ◌∷◌}
 use mathlib.Core.Bool.{Bool, true, false, cond, true≢false}
 use Prim.Native.Nat.{ℕ}
+use borrow.Author.Rules.{rules}
 use types.Run.{OneOf, miss}
 use denote.Enum.Declared.{tag_of}
 use lib.Ieee.{Float}
@@ -37,6 +38,17 @@ unless_say false y z r e = absurd (true≢false (sym (ap accepted e) ∙ r))
 
 abbrev pub Refused : Ticked → Type 0
 Refused t = OneOf (1 ∷ 2 ∷ 3 ∷ 4 ∷ 5 ∷ 6 ∷ 7 ∷ 8 ∷ []) (tag_of the_type t)
+
+pub refuses : (t : Ticked) → (t ≡ is.Accepted → ⊥) → Refused t
+refuses is.Accepted h = absurd (h refl)
+refuses is.BadCircuit h = search rules
+refuses (is.LeafCount n) h = search rules
+refuses (is.StateShape n) h = search rules
+refuses (is.CursorCount n) h = search rules
+refuses is.ShortRoom h = search rules
+refuses (is.BadStatus n) h = search rules
+refuses (is.BadFlag n) h = search rules
+refuses (is.BadInvariant v) h = search rules
 
 pub not_accepted : (t : Ticked) → Refused t → accepted t ≡ false
 not_accepted is.Accepted h = absurd (miss (1 ∷ 2 ∷ 3 ∷ 4 ∷ 5 ∷ 6 ∷ 7 ∷ 8 ∷ []) 0 tt h)

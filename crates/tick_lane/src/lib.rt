@@ -1,5 +1,7 @@
 // One tick of a circuit that has passed its check, on parts of the right lengths. Inner: tick asks this of one part, and whoever ticks many
 // parts of one circuit asks it of each, after one check.
+#![tactic(auto)]
+
 mod answers;
 mod evaluate;
 
@@ -18,7 +20,7 @@ use tick_verdict::Validated;
 use wire::Counts;
 
 // What a tick answers: each refusal with its place, a broken invariant with the case and the offending float.
-#[derive(Drop)]
+#[derive(Clone, Copy)]
 pub enum Ticked {
     Accepted,
     BadCircuit,

@@ -1,4 +1,6 @@
 // A tick's and a validation's answers as document 01's numbers: for the listing's lines, and for callers in C.
+#![tactic(auto)]
+
 ghost use Rattle.std.specs.Prelude.{◌≡◌};
 ghost use Rattle.exact.specs.Whole.{zero32};
 ghost use Rattle.tick_refusal.specs.Refusal.{of_validated, of_ticked};
@@ -8,7 +10,7 @@ use tick_verdict::Validated;
 
 // Document 01's number, 0 where nothing is refused; of a broken invariant the case, 1 not a bit, 2 not one hot, 3 bad cursor; the place; the offending float.
 #[repr(C)]
-#[derive(Drop)]
+#[derive(Clone, Copy)]
 pub struct Refusal {
     pub number: u32,
     pub broken: u32,

@@ -1,10 +1,12 @@
 // What a tick reports, in report order: tick.rs's `ticked` and `halts`, into lent slices.
+#![tactic(auto)]
+
 ghost use Rattle.std.specs.Prelude.{◌≡◌, ◌≤◌, length, get_or};
 ghost use Rattle.std.proofs.lemmas.List.Edits.{sets};
 ghost use Rattle.tick_report.specs.Report.{nodes_of, marks_of, listed, ticked_of, halted, halts_of};
 
 // How many nodes were listed, or that an output is too short for them.
-#[derive(Drop)]
+#[derive(Clone, Copy)]
 pub enum Reported {
     Count(usize),
     ShortRoom,

@@ -6,6 +6,7 @@ use Prim.Native.Nat.{ℕ, zero, suc, ◌+◌, ◌≤◌, ◌<◌}
 use native.Mathlib.Numerals.{add-one}
 use native.Mathlib.Nat.{eq-or-lt_of_le, le_of_suc-le-suc}
 use native.Mathlib.Omega.{arith}
+use borrow.Author.Rules.{rules}
 use types.Run.{OneOf, miss}
 use denote.Enum.Declared.{tag_of}
 use Rattle.tick_verdict.specs.contracts.Validated.{the_type}
@@ -16,6 +17,14 @@ use Rattle.tick_verdict.specs.Verdict.{or_else, first_of}
 -- by its tag, a verdict is one of those that are not sound
 abbrev pub Unsound : Validated → Type 0
 Unsound v = OneOf (1 ∷ 2 ∷ 3 ∷ 4 ∷ 5 ∷ []) (tag_of the_type v)
+
+pub unsound : (v : Validated) → (v ≡ Sound → ⊥) → Unsound v
+unsound Sound h = absurd (h refl)
+unsound BadCircuit h = search rules
+unsound ShortRoom h = search rules
+unsound (NotABit i x) h = search rules
+unsound (NotOneHot i x) h = search rules
+unsound (BadCursor i x) h = search rules
 
 stays : (v w : Validated) → Unsound v → v ≡ or_else v w
 stays Sound w h = absurd (miss (1 ∷ 2 ∷ 3 ∷ 4 ∷ 5 ∷ []) 0 tt h)

@@ -1,11 +1,13 @@
 // Validation of the values of a circuit's output forms: six a node (success, failure, running, reached, halted, next running), then one a cursor.
+#![tactic(auto)]
+
 ghost use Rattle.std.specs.Prelude.{◌≡◌, ◌+◌, ◌*◌, ◌≤◌, ◌<◌, length};
 ghost use Rattle.tick_verdict.specs.Verdict.{bit, one_hot, statuses, marks, node_reach, cursor, cursor_at, low, low_at, first_of, values_verdict, tick_verdict};
 
 use index::{CursorCell, NodeIndex};
 
 // What validation answers. A case with a place holds the offending float beside it.
-#[derive(Drop)]
+#[derive(Clone, Copy)]
 pub enum Validated {
     Sound,
     BadCircuit,

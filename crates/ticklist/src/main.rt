@@ -1,5 +1,7 @@
 // The listing program: from standard input a tree and then leaf rows, to standard output a line for each tick. Lines appear as rows come, and
 // memory does not grow. Crate list_machine says what is printed; here the rooms are lent.
+#![tactic(auto)]
+
 mod lent;
 
 use lent::{
@@ -9,7 +11,8 @@ use lent::{
 use list_start::begin;
 use list_turns::{go_on, read_front};
 
-fn main() {
+fn main(rt: HostRuntime) {
+    let mut input = rt.stdin();
     let mut buffer = buffer_room();
     let mut out = [0u8; 3072];
     let mut nums = nums_room();
@@ -20,7 +23,7 @@ fn main() {
     let mut work_biases = work_biases_room();
     let mut work_wires = work_wires_room();
     let mut work_coefs = work_coefs_room();
-    let have = read_front(&mut buffer);
+    let have = read_front(&mut input, &mut buffer);
     let begun = begin(
         &buffer[..have],
         &mut out,
@@ -34,6 +37,7 @@ fn main() {
         &mut work_coefs,
     );
     go_on(
+        &mut input,
         &out,
         begun.wrote,
         begun.goes,

@@ -10,10 +10,7 @@ use borrow.Author.Tests.{le-ltb, lt-ltb, ltb-false, leb-false}
 use lib.Dec.{ltb, leb}
 use lib.ListN.{length, get_or, take, drop, set, replicate, length-set, take-append-drop}
 use lib.Seq.{take-suc-set, drop-set-lt, length-take-le, drop-drop}
-use types.Run.{OneOf, miss}
-use denote.Enum.Declared.{tag_of}
 use Rattle.tree.proofs.Stack.{stack_of, stack_length, stack_top, stack_push}
-use Rattle.tree_record.specs.contracts.record.Record.{the_type}
 use Rattle.tree.specs.declared.flat.Flattened.{Flattened}
 use Rattle.tree_record.specs.declared.record.Record.{Record}
 use Rattle.tree_record.specs.declared.record.Record.TheVariants.{Node}
@@ -184,10 +181,10 @@ pub told : (t : Parsed) (cause : Cause) (n : ℕ) (ks cs : List ℕ) → t ≡ r
 told t cause n ks cs e = rw e (refl, tt)
 
 -- the same of a record that is no node, as its tag says
-pub told_record : (r : Record) (n : ℕ) (t : Parsed) (ks cs : List ℕ) → OneOf (1 ∷ []) (tag_of the_type r)
+pub told_record : (r : Record) (n : ℕ) (t : Parsed) (ks cs : List ℕ) → ((kind count next : ℕ) → r ≡ Node kind count next → ⊥)
     → ((cause : Cause) → r ≡ Record.Refused cause → t ≡ refused_at cause n)
     → (passed_on r n ≡ answer_of t) × Written t ks cs
-told_record (Node kind count next) n t ks cs h f = absurd (miss (1 ∷ []) 0 tt h)
+told_record (Node kind count next) n t ks cs h f = absurd (h kind count next refl)
 told_record (Record.Refused cause) n t ks cs h f = told t cause n ks cs (f cause refl)
 
 -- the answer at the end of a tree

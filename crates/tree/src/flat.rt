@@ -7,7 +7,7 @@ use index::NodeIndex;
 use tree_record::{Cause, Record, Refusal, read_record};
 
 // A node's level, the root's being 1.
-#[derive(Drop)]
+#[derive(Clone, Copy)]
 pub struct Level(pub usize);
 
 impl Level {
@@ -16,7 +16,7 @@ impl Level {
 }
 
 // How many nodes a tree has, or why it is refused.
-#[derive(Drop)]
+#[derive(Clone, Copy)]
 pub enum Flattened {
     Accepted { nodes: usize },
     Refused(Refusal),

@@ -1,9 +1,11 @@
 // The table of kinds: "Each kind's name, length and family stand in one fixed table."
+#![tactic(auto)]
+
 ghost use Rattle.std.specs.Prelude.{◌≡◌};
 ghost use Rattle.tree_kinds.specs.Kinds.{row_of};
 
 // What a kind's nodes have below them. Kinds of the family Never are known and not lowered; Unknown is every number that the table lacks.
-#[derive(Drop)]
+#[derive(Clone, Copy)]
 pub enum Family {
     Leaf,
     Composite,
@@ -13,7 +15,7 @@ pub enum Family {
 }
 
 // A kind's row: its name, in the first `chars` bytes, the length that its records have, and its family.
-#[derive(Drop)]
+#[derive(Clone, Copy)]
 pub struct Row {
     pub name: [u8; 23],
     pub chars: u8,
@@ -22,7 +24,7 @@ pub struct Row {
 }
 
 // A kind's number: its place in the table, counted from 1.
-#[derive(Drop)]
+#[derive(Clone, Copy)]
 pub struct Kind(pub u8);
 
 impl Kind {

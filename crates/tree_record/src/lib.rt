@@ -1,4 +1,6 @@
 // The reader of a record, and the refusals of compiling.
+#![tactic(auto)]
+
 mod record;
 mod refusal;
 

@@ -7,7 +7,7 @@ use crate::refusal::Cause;
 use tree_kinds::{Family, row_of};
 
 // What stands at a position: a whole record's kind, its node's child count and the position of the next record; or why there is none.
-#[derive(Drop)]
+#[derive(Clone, Copy)]
 pub enum Record {
     Node { kind: u8, count: u16, next: usize },
     Refused(Cause),

@@ -3,7 +3,7 @@ ghost use Rattle.std.specs.Prelude.{◌≡◌};
 ghost use Rattle.tree_record.specs.Refusal.{number_of, kind_of};
 
 // Why a tree is refused. Unsupported carries the kind.
-#[derive(Drop)]
+#[derive(Clone, Copy)]
 pub enum Cause {
     Truncated,
     BadLength,
@@ -49,7 +49,7 @@ impl Cause {
 }
 
 // A refusal: why, and at which place.
-#[derive(Drop)]
+#[derive(Clone, Copy)]
 pub struct Refusal {
     pub cause: Cause,
     pub place: usize,

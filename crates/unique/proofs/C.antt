@@ -20,60 +20,72 @@ use Rattle.arena.specs.Arena.{Outcome}
 use Rattle.arena_c.specs.declared.Row.{Row}
 use Rattle.arena_c.specs.Flat.{Leaves}
 use Rattle.palthengi.proofs.palthengi_compile
+use Rattle.palthengi.specs.contracts.palthengi_compile as palthengi_compile_contract
 use Rattle.palthengi.proofs.palthengi_check
+use Rattle.palthengi.specs.contracts.palthengi_check as palthengi_check_contract
 use Rattle.palthengi.proofs.palthengi_tick
+use Rattle.palthengi.specs.contracts.palthengi_tick as palthengi_tick_contract
 use Rattle.palthengi.proofs.palthengi_validate
+use Rattle.palthengi.specs.contracts.palthengi_validate as palthengi_validate_contract
 use Rattle.wire_c.proofs.palthengi_value
+use Rattle.wire_c.specs.contracts.palthengi_value as palthengi_value_contract
 use Rattle.wire_c.proofs.palthengi_op_value
+use Rattle.wire_c.specs.contracts.palthengi_op_value as palthengi_op_value_contract
 use Rattle.wire_c.proofs.palthengi_evaluate
+use Rattle.wire_c.specs.contracts.palthengi_evaluate as palthengi_evaluate_contract
 use Rattle.wire_c.proofs.palthengi_layers
+use Rattle.wire_c.specs.contracts.palthengi_layers as palthengi_layers_contract
 use Rattle.wire_c.proofs.palthengi_depth
+use Rattle.wire_c.specs.contracts.palthengi_depth as palthengi_depth_contract
 use Rattle.arena_c.proofs.palthengi_plus
+use Rattle.arena_c.specs.contracts.palthengi_plus as palthengi_plus_contract
 use Rattle.arena_c.proofs.palthengi_scaled
+use Rattle.arena_c.specs.contracts.palthengi_scaled as palthengi_scaled_contract
 use Rattle.arena_c.proofs.palthengi_one_minus
+use Rattle.arena_c.specs.contracts.palthengi_one_minus as palthengi_one_minus_contract
 use Rattle.unique.specs.One.{One}
 use Rattle.unique.proofs.Compile.{four}
 use Rattle.unique.proofs.Tick.{left}
 
-pub one_compilation : One palthengi_compile.ended palthengi_compile.Reads.Post
+pub one_compilation : One palthengi_compile_contract.ended palthengi_compile.Reads.Post
 one_compilation κs a x y u v p q =
     let same = p.0 ∙⁻¹ q.0 in
     let work = four p.1 q.1 in
     (λ i. (same i).answer, λ i. (tt, ((same i).nums, ((same i).biases, ((same i).wires, ((same i).coefs, work i))))))
 
-pub one_check : One palthengi_check.ended palthengi_check.Reads.Post
+pub one_check : One palthengi_check_contract.ended palthengi_check.Reads.Post
 one_check κs a x y u v p q = (p ∙⁻¹ q, refl)
 
-pub one_tick : One palthengi_tick.ended palthengi_tick.Reads.Post
+pub one_tick : One palthengi_tick_contract.ended palthengi_tick.Reads.Post
 one_tick κs a x y u v p q = let same = p ∙⁻¹ q in (λ i. (same i).answer, λ i. left κs a (same i).left)
 
-pub one_validation : One palthengi_validate.ended palthengi_validate.Reads.Post
+pub one_validation : One palthengi_validate_contract.ended palthengi_validate.Reads.Post
 one_validation κs a x y u v p q = (p ∙⁻¹ q, refl)
 
-pub one_value : One palthengi_value.ended palthengi_value.Reads.Post
+pub one_value : One palthengi_value_contract.ended palthengi_value.Reads.Post
 one_value κs a x y u v p q = (p ∙⁻¹ q, refl)
 
-pub one_op_value : One palthengi_op_value.ended palthengi_op_value.Reads.Post
+pub one_op_value : One palthengi_op_value_contract.ended palthengi_op_value.Reads.Post
 one_op_value κs a x y u v p q = (p ∙⁻¹ q, refl)
 
-pub one_evaluation : One palthengi_evaluate.ended palthengi_evaluate.Reads.Post
+pub one_evaluation : One palthengi_evaluate_contract.ended palthengi_evaluate.Reads.Post
 one_evaluation κs a x y u v p q = (p.0 ∙⁻¹ q.0, λ i. (tt, (tt, (tt, (tt, (tt, ((p.1 ∙⁻¹ q.1) i, tt)))))))
 
-pub one_layering : One palthengi_layers.ended palthengi_layers.Reads.Post
+pub one_layering : One palthengi_layers_contract.ended palthengi_layers.Reads.Post
 one_layering κs a x y u v p q = (p.0 ∙⁻¹ q.0, λ i. (tt, (tt, (tt, (tt, ((p.1 ∙⁻¹ q.1) i, tt))))))
 
-pub one_depth : One palthengi_depth.ended palthengi_depth.Reads.Post
+pub one_depth : One palthengi_depth_contract.ended palthengi_depth.Reads.Post
 one_depth κs a x y u v p q = (p ∙⁻¹ q, refl)
 
 row : {R : Type 0} {rest : R} {o : Outcome} {ws₁ ws₂ : List ℕ} {cs₁ cs₂ : List Float} {x y : Row} → Leaves o ws₁ cs₁ x → Leaves o ws₂ cs₂ y
     → (x ≡ y) × Path (List ℕ × (List Float × R)) (ws₁, (cs₁, rest)) (ws₂, (cs₂, rest))
 row {rest = rest} p q = (p.row ∙⁻¹ q.row, λ i. ((p.wires ∙⁻¹ q.wires) i, ((p.coefs ∙⁻¹ q.coefs) i, rest)))
 
-pub one_plus : One palthengi_plus.ended palthengi_plus.Reads.Post
+pub one_plus : One palthengi_plus_contract.ended palthengi_plus.Reads.Post
 one_plus κs a x y u v p q = row p q
 
-pub one_scaled : One palthengi_scaled.ended palthengi_scaled.Reads.Post
+pub one_scaled : One palthengi_scaled_contract.ended palthengi_scaled.Reads.Post
 one_scaled κs a x y u v p q = row p q
 
-pub one_one_minus : One palthengi_one_minus.ended palthengi_one_minus.Reads.Post
+pub one_one_minus : One palthengi_one_minus_contract.ended palthengi_one_minus.Reads.Post
 one_one_minus κs a x y u v p q = row p q

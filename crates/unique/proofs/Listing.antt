@@ -14,32 +14,40 @@ use Prim.Native.Nat.{ℕ}
 use lib.Ieee.{Float}
 use Rattle.list_machine.specs.Begin.{Rooms}
 use Rattle.list_text.proofs.write_line
+use Rattle.list_text.specs.contracts.write_line as write_line_contract
 use Rattle.list_text.proofs.write_refused
+use Rattle.list_text.specs.contracts.write_refused as write_refused_contract
 use Rattle.list_text.proofs.write_bad
+use Rattle.list_text.specs.contracts.write_bad as write_bad_contract
 use Rattle.list_text.proofs.outer_at
+use Rattle.list_text.specs.contracts.outer_at as outer_at_contract
 use Rattle.list_start.proofs.begin
+use Rattle.list_start.specs.contracts.begin as begin_contract
 use Rattle.list_rows.proofs.list_rows
+use Rattle.list_rows.specs.contracts.list_rows as list_rows_contract
 use Rattle.list_ends.proofs.finish
+use Rattle.list_ends.specs.contracts.finish as finish_contract
 use Rattle.list_ends.proofs.move_down
+use Rattle.list_ends.specs.contracts.move_down as move_down_contract
 use Rattle.unique.specs.One.{One}
 
-pub one_line : One write_line.ended write_line.Reads.Post
+pub one_line : One write_line_contract.ended write_line.Reads.Post
 one_line κs a x y u v p q = (p.0 ∙⁻¹ q.0, λ i. ((p.1 ∙⁻¹ q.1) i, u.1))
 
-pub one_refused : One write_refused.ended write_refused.Reads.Post
+pub one_refused : One write_refused_contract.ended write_refused.Reads.Post
 one_refused κs a x y u v p q = (p.0 ∙⁻¹ q.0, λ i. ((p.1 ∙⁻¹ q.1) i, u.1))
 
-pub one_bad : One write_bad.ended write_bad.Reads.Post
+pub one_bad : One write_bad_contract.ended write_bad.Reads.Post
 one_bad κs a x y u v p q = (p.0 ∙⁻¹ q.0, λ i. ((p.1 ∙⁻¹ q.1) i, u.1))
 
-pub one_outer : One outer_at.ended outer_at.Reads.Post
+pub one_outer : One outer_at_contract.ended outer_at.Reads.Post
 one_outer κs a x y u v p q = (p ∙⁻¹ q, refl)
 
 -- the rooms in the order in which they are lent
 abbrev rooms : Rooms → List ℕ × (List Float × (List ℕ × (List Float × (List ℕ × (List Float × (List ℕ × (List Float × Unit {0})))))))
 rooms m = (m.nums, (m.biases, (m.wires, (m.coefs, (m.work_nums, (m.work_biases, (m.work_wires, (m.work_coefs, tt))))))))
 
-pub one_beginning : One begin.ended begin.Reads.Post
+pub one_beginning : One begin_contract.ended begin.Reads.Post
 one_beginning κs a x y u v p q =
     let out = p.out_is ∙⁻¹ q.out_is in
     let left = p.left_is ∙⁻¹ q.left_is in (
@@ -53,7 +61,7 @@ one_beginning κs a x y u v p q =
       λ i. (tt, (out i, rooms (left i))),
     )
 
-pub one_run : One list_rows.ended list_rows.Reads.Post
+pub one_run : One list_rows_contract.ended list_rows.Reads.Post
 one_run κs a x y u v p q =
     let out = p.out_is ∙⁻¹ q.out_is in
     let kept = p.kept_is ∙⁻¹ q.kept_is in (
@@ -66,8 +74,8 @@ one_run κs a x y u v p q =
       λ i. (tt, (tt, (out i, (tt, (tt, (tt, (tt, (tt, (tt, ((kept i).flags, ((kept i).cursors, ((kept i).values, tt)))))))))))),
     )
 
-pub one_last_line : One finish.ended finish.Reads.Post
+pub one_last_line : One finish_contract.ended finish.Reads.Post
 one_last_line κs a x y u v p q = (p.0 ∙⁻¹ q.0, λ i. (tt, ((p.1 ∙⁻¹ q.1) i, tt)))
 
-pub one_unread : One move_down.ended move_down.Reads.Post
+pub one_unread : One move_down_contract.ended move_down.Reads.Post
 one_unread κs a x y u v p q = (p.0 ∙⁻¹ q.0, λ i. ((p.1 ∙⁻¹ q.1) i, u.1))

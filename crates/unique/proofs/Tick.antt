@@ -16,52 +16,63 @@ use denote.Triple.Entry.{Args}
 use denote.Triple.Clauses.{Lasts}
 use Rattle.tick_lane.specs.Lane.{Lent}
 use Rattle.tick_check.proofs.is_circuit
+use Rattle.tick_check.specs.contracts.is_circuit as is_circuit_contract
 use Rattle.tick_verdict.proofs.values_verdict
+use Rattle.tick_verdict.specs.contracts.values_verdict as values_verdict_contract
 use Rattle.tick_verdict.proofs.tick_verdict
+use Rattle.tick_verdict.specs.contracts.tick_verdict as tick_verdict_contract
 use Rattle.tick_lane.proofs.read_outs
+use Rattle.tick_lane.specs.contracts.read_outs as read_outs_contract
 use Rattle.tick_lane.proofs.lane
+use Rattle.tick_lane.specs.contracts.lane as lane_contract
 use Rattle.tick.proofs.tick
+use Rattle.tick.specs.contracts.tick as tick_contract
 use Rattle.tick_refusal.proofs.of_validated
+use Rattle.tick_refusal.specs.contracts.of_validated as of_validated_contract
 use Rattle.tick_refusal.proofs.of_ticked
+use Rattle.tick_refusal.specs.contracts.of_ticked as of_ticked_contract
 use Rattle.tick_report.proofs.ticked
+use Rattle.tick_report.specs.contracts.ticked as ticked_contract
 use Rattle.tick_report.proofs.halts
+use Rattle.tick_report.specs.contracts.halts as halts_contract
 use Rattle.validate.proofs.validate
+use Rattle.validate.specs.contracts.validate as validate_contract
 use Rattle.unique.specs.One.{Lifetimes, One}
 
-pub one_check : One is_circuit.ended is_circuit.Reads.Post
+pub one_check : One is_circuit_contract.ended is_circuit.Reads.Post
 one_check κs a x y u v p q = (p ∙⁻¹ q, refl)
 
-pub one_values_verdict : One values_verdict.ended values_verdict.Reads.Post
+pub one_values_verdict : One values_verdict_contract.ended values_verdict.Reads.Post
 one_values_verdict κs a x y u v p q = (p ∙⁻¹ q, refl)
 
-pub one_tick_verdict : One tick_verdict.ended tick_verdict.Reads.Post
+pub one_tick_verdict : One tick_verdict_contract.ended tick_verdict.Reads.Post
 one_tick_verdict κs a x y u v p q = (p ∙⁻¹ q, refl)
 
-pub one_outs : One read_outs.ended read_outs.Reads.Post
+pub one_outs : One read_outs_contract.ended read_outs.Reads.Post
 one_outs κs a x y u v p q = (refl, λ i. ((p ∙⁻¹ q) i, u.1))
 
 -- what a tick leaves: six parameters before these are not written
-abbrev pub left : (κs : Lifetimes tick.ended) (a : Args (tick.ended).signature κs) → Lent → Lasts tick.ended κs a
+abbrev pub left : (κs : Lifetimes tick_contract.ended) (a : Args (tick_contract.ended).signature κs) → Lent → Lasts tick_contract.ended κs a
 left κs a l =
     (tt, (tt, (tt, (tt, (tt, (tt, (l.flags, (l.cursors, (l.values, (l.statuses, (l.halts, (l.edges, tt))))))))))))
 
-pub one_lane : One lane.ended lane.Reads.Post
+pub one_lane : One lane_contract.ended lane.Reads.Post
 one_lane κs a x y u v p q = let same = p ∙⁻¹ q in (λ i. (same i).answer, λ i. left κs a (same i).left)
 
-pub one_tick : One tick.ended tick.Reads.Post
+pub one_tick : One tick_contract.ended tick.Reads.Post
 one_tick κs a x y u v p q = let same = p ∙⁻¹ q in (λ i. (same i).answer, λ i. left κs a (same i).left)
 
-pub one_of_validated : One of_validated.ended of_validated.Reads.Post
+pub one_of_validated : One of_validated_contract.ended of_validated.Reads.Post
 one_of_validated κs a x y u v p q = (p ∙⁻¹ q, refl)
 
-pub one_of_ticked : One of_ticked.ended of_ticked.Reads.Post
+pub one_of_ticked : One of_ticked_contract.ended of_ticked.Reads.Post
 one_of_ticked κs a x y u v p q = (p ∙⁻¹ q, refl)
 
-pub one_ticked_list : One ticked.ended ticked.Reads.Post
+pub one_ticked_list : One ticked_contract.ended ticked.Reads.Post
 one_ticked_list κs a x y u v p q = let same = p ∙⁻¹ q in (λ i. (same i).answer, λ i. (tt, (tt, ((same i).nodes, ((same i).marks, tt)))))
 
-pub one_halt_list : One halts.ended halts.Reads.Post
+pub one_halt_list : One halts_contract.ended halts.Reads.Post
 one_halt_list κs a x y u v p q = let same = p ∙⁻¹ q in (λ i. (same i).answer, λ i. (tt, (tt, ((same i).nodes, tt))))
 
-pub one_verdict : One validate.ended validate.Reads.Post
+pub one_verdict : One validate_contract.ended validate.Reads.Post
 one_verdict κs a x y u v p q = (p ∙⁻¹ q, refl)

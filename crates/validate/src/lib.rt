@@ -1,4 +1,6 @@
 // Validation of a lent value table against a lent circuit: `validate` of lower.rs, on anything.
+#![tactic(auto)]
+
 ghost use Rattle.std.specs.Prelude.{◌≡◌, ◌+◌, ◌*◌, ◌≤◌, length, take};
 ghost use Rattle.tick_check.specs.Check.{stored};
 ghost use Rattle.tick_verdict.specs.Verdict.{values_verdict};

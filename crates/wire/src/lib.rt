@@ -1,4 +1,6 @@
 // Affine forms over two lent pools, a pool of wires and one of coefficients (wire.rs), and a circuit in lent storage.
+#![tactic(auto)]
+
 ghost use Rattle.std.specs.Prelude.{◌≡◌};
 ghost use Rattle.wire.specs.Terms.{constant_form, look_up};
 ghost use Rattle.wire.specs.Storage.{op_slots, term_slots, storage_holds};
@@ -6,7 +8,7 @@ ghost use Rattle.wire.specs.Storage.{op_slots, term_slots, storage_holds};
 use index::Wire;
 
 // "A form is a struct with an f32 bias and the range of its terms": its terms are those of the pools from first on, len of them.
-#[derive(Drop)]
+#[derive(Clone, Copy)]
 pub struct Form {
     pub bias: f32,
     pub first: usize,
@@ -14,7 +16,7 @@ pub struct Form {
 }
 
 // A weighted wire.
-#[derive(Drop)]
+#[derive(Clone, Copy)]
 pub struct Term {
     pub wire: Wire,
     pub coef: f32,
@@ -67,7 +69,7 @@ pub fn wires_of(f: Form, wires: &[u32]) -> &[u32]
 
 // How much of each sort a circuit has in use.
 #[repr(C)]
-#[derive(Drop)]
+#[derive(Clone, Copy)]
 pub struct Counts {
     pub nodes: usize,
     pub cursors: usize,
@@ -78,7 +80,7 @@ pub struct Counts {
 }
 
 // The slice of a circuit's numbers, by where each sort begins.
-#[derive(Drop)]
+#[derive(Clone, Copy)]
 pub struct Nums {}
 
 impl Nums {
@@ -99,7 +101,7 @@ impl Nums {
 }
 
 // The slice of a circuit's biases: those of the output forms from 0 on.
-#[derive(Drop)]
+#[derive(Clone, Copy)]
 pub struct Biases {}
 
 impl Biases {
@@ -110,7 +112,7 @@ impl Biases {
 }
 
 // An instruction, as it stands in storage.
-#[derive(Drop)]
+#[derive(Clone, Copy)]
 pub enum Op {
     // The form itself.
     Affine(Form),

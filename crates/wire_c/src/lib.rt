@@ -1,4 +1,6 @@
 // Values, evaluation and layers for callers in C and Rust: numbers and slices in, a document 01 number out, 0 where nothing is refused.
+#![tactic(auto)]
+
 ghost use Rattle.std.specs.Prelude.{◌≡◌, length};
 ghost use Rattle.wire_read.specs.Reading.{stored_op};
 ghost use Rattle.wire_eval.specs.Evaluation.{value_of, op_value_of, evaluated, table_left};
@@ -11,7 +13,7 @@ use wire_layers::Layered;
 
 // A number, and the value where the number is 0.
 #[repr(C)]
-#[derive(Drop)]
+#[derive(Clone, Copy)]
 pub struct Answer {
     pub number: u32,
     pub value: f32,
@@ -19,7 +21,7 @@ pub struct Answer {
 
 // A number, and the first bad op where the number is 17.
 #[repr(C)]
-#[derive(Drop)]
+#[derive(Clone, Copy)]
 pub struct Ended {
     pub number: u32,
     pub op: usize,
@@ -52,8 +54,7 @@ fn ended_of(e: Evaluated) -> Ended
 }
 
 // The value of a form, given by its bias and range.
-#[unsafe(no_mangle)]
-pub extern "C" fn palthengi_value(
+pub fn palthengi_value(
     bias: f32,
     first: usize,
     len: usize,
@@ -67,8 +68,7 @@ pub extern "C" fn palthengi_value(
 }
 
 // The value of op i of a circuit in storage.
-#[unsafe(no_mangle)]
-pub extern "C" fn palthengi_op_value(
+pub fn palthengi_op_value(
     nums: &[u32],
     biases: &[f32],
     wires: &[u32],
@@ -83,8 +83,7 @@ pub extern "C" fn palthengi_op_value(
 }
 
 // All ops, into a table whose first places hold the cells.
-#[unsafe(no_mangle)]
-pub extern "C" fn palthengi_evaluate(
+pub fn palthengi_evaluate(
     counts: Counts,
     nums: &[u32],
     biases: &[f32],
@@ -100,8 +99,7 @@ pub extern "C" fn palthengi_evaluate(
 }
 
 // The layer of every value.
-#[unsafe(no_mangle)]
-pub extern "C" fn palthengi_layers(
+pub fn palthengi_layers(
     counts: Counts,
     nums: &[u32],
     biases: &[f32],
@@ -119,8 +117,7 @@ pub extern "C" fn palthengi_layers(
 }
 
 // The depth, from the layers.
-#[unsafe(no_mangle)]
-pub extern "C" fn palthengi_depth(layers: &[u32]) -> u32
+pub fn palthengi_depth(layers: &[u32]) -> u32
     ensures { result ≡ largest (λ layer. layer) layers.now }
 {
     wire_layers::depth(layers)

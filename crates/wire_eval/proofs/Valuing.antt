@@ -19,7 +19,7 @@ use Rattle.wire_eval.specs.declared.Valued.{Valued}
 use Rattle.wire_eval.specs.declared.Valued.TheVariants.{Value}
 use Rattle.wire_eval.specs.declared.Valued.TheVariants as valued
 use Rattle.wire_eval.specs.contracts.Valued.{the_type}
-use types.Run.{OneOf, miss}
+use types.Run.{OneOf, hit, miss}
 use denote.Enum.Declared.{tag_of}
 use Rattle.wire_eval.specs.Evaluation.{value_of, gated, op_value_of}
 
@@ -33,6 +33,11 @@ module _ (ws : List ℕ) (cs table : List Float) (f : Form) where
   value_short h = rw h
 
 -- ---- an op's value, as its match goes
+
+pub not_a_value : (v : Valued) → ((x : Float) → v ≡ Value x → ⊥) → OneOf (1 ∷ 2 ∷ []) (tag_of the_type v)
+not_a_value (Value x) h = absurd (h x refl)
+not_a_value valued.Short h = hit (1 ∷ 2 ∷ []) 1 tt
+not_a_value valued.BadOp h = hit (1 ∷ 2 ∷ []) 2 tt
 
 module _ (ws : List ℕ) (cs table : List Float) where
   pub value_affine : (op : Op) (f : Form) → op ≡ Affine f → (r : Valued) → r ≡ value_of ws cs table f → r ≡ op_value_of ws cs table op

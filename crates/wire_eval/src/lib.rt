@@ -1,11 +1,13 @@
 // The value of a form, of an op and of all ops, for any storage and any table: wire.rs's evaluation, with an answer where the Rust panics.
+#![tactic(auto)]
+
 ghost use Rattle.std.specs.Prelude.{◌≡◌, ◌+◌, ◌<◌, length};
 ghost use Rattle.wire_eval.specs.Evaluation.{value_of, op_value_of, first_bad, evaluated, table_left};
 
 use wire::{Counts, Form, Op};
 
 // The value asked for, or why there is none.
-#[derive(Drop)]
+#[derive(Clone, Copy)]
 pub enum Valued {
     Value(f32),
     // The form points past a pool, or reads past the table.
@@ -15,7 +17,7 @@ pub enum Valued {
 }
 
 // How evaluating all ops ended.
-#[derive(Drop)]
+#[derive(Clone, Copy)]
 pub enum Evaluated {
     Done,
     // The table has no place for all cells and ops.

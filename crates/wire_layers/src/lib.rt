@@ -1,4 +1,6 @@
 // The layer of every value of a circuit, and its depth: wire.rs's layers and depth, into a lent slice.
+#![tactic(auto)]
+
 ghost use Rattle.std.specs.Prelude.{◌≡◌, ◌++◌, ◌≤◌, length, take, drop, replicate};
 ghost use Rattle.wire_layers.specs.Layers.{largest, layer_of, form_depth, op_depth, one_past, layered, layers_left};
 
@@ -6,7 +8,7 @@ use index::Wire;
 use wire::{Counts, Form, Op};
 
 // How laying out ended.
-#[derive(Drop)]
+#[derive(Clone, Copy)]
 pub enum Layered {
     Done,
     // The slice has no place for all cells and ops.
@@ -14,7 +16,7 @@ pub enum Layered {
 }
 
 // A layer: the cells are in layer 0, an op is one past the deepest value that it reads.
-#[derive(Drop)]
+#[derive(Clone, Copy)]
 pub struct Layer {}
 
 impl Layer {

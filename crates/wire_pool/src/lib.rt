@@ -1,5 +1,7 @@
 // Reads of a circuit's storage that test no bound: a form, its sum, an op's value, all ops. Inner: each asks that what it reads is there,
 // and eval and tick, which call it, have tested that before.
+#![tactic(auto)]
+
 ghost use Rattle.std.specs.Prelude.{◌≡◌, ℕ, ◌+◌, ◌≤◌, ◌<◌, length};
 ghost use Rattle.wire.specs.Terms.{meaning, value_in};
 ghost use Rattle.wire.specs.Storage.{form_at, op_at};

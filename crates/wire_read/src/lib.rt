@@ -1,4 +1,6 @@
 // Which forms and ops can be read, for any storage: wire.rs's reading, with an answer where the Rust panics.
+#![tactic(auto)]
+
 ghost use Rattle.std.specs.Prelude.{◌≡◌};
 ghost use Rattle.wire_read.specs.Reading.{readable, stored_op, op_reads};
 

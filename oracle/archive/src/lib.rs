@@ -1,4 +1,4 @@
-//! The archives that `rt staticlib` writes: linking one from a build script, calling its C functions on slices, and what their users share.
+//! The archives that `tools/archive` writes: linking one from a build script, calling its C functions on slices, and what their users share.
 
 /// Links `target/staticlib/libNAME.a`; for a build script.
 pub fn link(name: &str) {

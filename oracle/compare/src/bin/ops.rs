@@ -43,25 +43,24 @@ const DEFINITION: [(&str, &str); 6] = [
 ];
 
 /// What those files call each other by, across crates and within one.
-const OLD_PATHS: [&str; 2] = ["Rattle·walk.specs.", "Rattle·construct·specs.specs."];
+const OLD_PATHS: [&str; 2] = ["Rattle.walk.specs.", "Rattle.construct.specs."];
 
 /// What the written crate's files call each other by.
-const NEW_PATH: &str = "Rattle·construction·specs.specs.";
+const NEW_PATH: &str = "Rattle.construction.specs.";
 
 /// What the crate's source says.
-const LIB_RT: &str = "// Written by the oracle's program `ops`: theorems only, see specs/.\n";
+const LIB_RT: &str = "// Written by the oracle's program `ops`: theorems only, see specs/.\n#![tactic(auto)]\n";
 
 /// What a row is, and the row that the definition gives for a row's tree.
 const ROW: &str = "\
 -- A tree, and the numbers of its circuit's forms. Written by the oracle's program `ops`, as is the whole crate.
-use Prim.Native.Nat.{ℕ, _-_}
-use mathlib.Core.List.{List, [], _∷_, map}
-use Rattle·construction·specs.specs.Kind.{kindOf}
-use Rattle·construction·specs.specs.Builder as B
-use Rattle·construction·specs.specs.Lower as L
-use Rattle·construction·specs.specs.Circuit.{flats, slotEnd, cellEnd, inputs, build, construct, opForms, outputForms}
-use Rattle·construction·specs.specs.Pairs as P
-use Rattle·construction·specs.specs.Pairs.{pairs}
+use Rattle.std.specs.Prelude.{ℕ, ◌-◌, List, [], ◌∷◌, map}
+use Rattle.construction.specs.Kind.{kind_of}
+use Rattle.construction.specs.Builder as B
+use Rattle.construction.specs.Lower as L
+use Rattle.construction.specs.Circuit.{flats, slot_end, cell_end, inputs, build, construct, op_forms, output_forms}
+use Rattle.construction.specs.Pairs as P
+use Rattle.construction.specs.Pairs.{pairs}
 
 -- kinds and child counts in pre-order; input cells; left and gate of every op; success, failure, running, reached, halted and next running of
 -- every node; next cursor of every cell
@@ -74,28 +73,27 @@ pub record Row : Type 0 where
   pub cursors : List (List ℕ)
 
 -- a whole number as two naturals of which one is 0: p - n and n - p
-unfoldable pub termNumbers : List P.Term → List ℕ
-termNumbers [] = []
-termNumbers (t ∷ ts) = t .wire ∷ (t .cp - t .cn) ∷ (t .cn - t .cp) ∷ termNumbers ts
+unfoldable pub term_numbers : List P.Term → List ℕ
+term_numbers [] = []
+term_numbers (t ∷ ts) = t.wire ∷ (t.cp - t.cn) ∷ (t.cn - t.cp) ∷ term_numbers ts
 
 -- the bias, then each term's wire and coefficient
 unfoldable pub numbers : P.Form → List ℕ
-numbers f = (f .bp - f .bn) ∷ (f .bn - f .bp) ∷ termNumbers (f .terms)
+numbers f = (f.bp - f.bn) ∷ (f.bn - f.bp) ∷ term_numbers f.terms
 
 unfoldable pub constructed : Row → Row
-unfolding kindOf slotEnd cellEnd construct build opForms outputForms B.not′ B.minus B.push B.relu B.isZeroAt B.isZero B.step B.atLeastAt B.atLeast B.andAt B.and B.orAt B.or L.inverted L.inverteds L.forced L.fixedT L.gates L.clears L.stops L.picks L.total L.lowerSeq L.lower L.upStep L.up L.spread L.children L.nextCur L.down L.flags P.keep P.insertAt P.insert P.merge P.flip P.times P.constant P.wire′ P.offset P.negate P.plus P.scaled P.empty P.knownAt P.known termNumbers numbers
+unfolding kind_of slot_end cell_end construct build op_forms output_forms B.not' B.minus B.push B.relu B.is_zero_at B.is_zero B.step B.at_least_at B.at_least B.and_at B.and B.or_at B.or L.inverted L.inverteds L.forced L.fixed_t L.gates L.clears L.stops L.picks L.total L.lower_seq L.lower L.up_step L.up L.spread L.children L.next_cur L.down L.flags P.keep P.insert_at P.insert P.merge P.flip P.times P.constant P.wire' P.offset P.negate P.plus P.scaled P.empty P.known_at P.known term_numbers numbers
 constructed r =
-    let ns = flats (r .kinds) (r .counts) in
+    let ns = flats r.kinds r.counts in
     let x = construct pairs ns in
-    record { kinds = r .kinds; counts = r .counts; cells = inputs ns; ops = map numbers (opForms (x .ops)); outputs = map numbers (outputForms (x .outputs)); cursors = map numbers (x .cursors) }
+    record { kinds = r.kinds; counts = r.counts; cells = inputs ns; ops = map numbers (op_forms x.ops); outputs = map numbers (output_forms x.outputs); cursors = map numbers x.cursors }
 ";
 
 /// The head of a file of rows.
 const ROWS_HEAD: &str = "\
 -- Trees of the stored cases with the Rust's circuits.
-use mathlib.Core.Path.{_≡_, refl}
-use mathlib.Core.List.{List, [], _∷_, map}
-use Rattle·construction·specs.specs.Row.{Row, constructed}
+use Rattle.std.specs.Prelude.{◌≡◌, refl, List, [], ◌∷◌, map}
+use Rattle.construction.specs.Row.{Row, constructed}
 
 abbrev pub rows : List Row
 rows =
@@ -103,9 +101,9 @@ rows =
 
 /// The theorem of a file of rows.
 const ROWS_FOOT: &str = "
-pub rows-hold : map constructed rows ≡ rows
+pub rows_hold : map constructed rows ≡ rows
 unfolding constructed
-rows-hold = refl
+rows_hold = refl
 ";
 
 /// A whole number, or a wire, as the table has it.

@@ -1,0 +1,10 @@
+-- `builder_table::plus` meets its contract.
+use Rattle.builder_table.specs.Work.{mem}
+use Rattle.builder_table.specs.Steps.{plus_in}
+use Rattle.builder_table.proofs.Steps.{in_arena_lem}
+use Rattle.builder_table.proofs.plus.Goals as goal
+
+pub returns : goal.returns
+unfolding plus_in
+returns c nums biases =
+    in_arena_lem (mem c.args.wires.now c.args.coefs.now nums biases) c.args.builder c.plus-r.ensures

@@ -1,0 +1,9 @@
+-- `list_turns::rows::take_turns` is safe and ends: the measure is the number of turns that are left.
+use Rattle.std.proofs.Common.{◌≤◌, length}
+use Rattle.list_turns.proofs.rows.take_turns.Given as goal
+
+abbrev pub invariant-loop-turns : goal.invariant-loop-turns
+invariant-loop-turns g l = (l.at ≤ l.end) × (l.end ≤ length l.buffer)
+
+abbrev pub decreases-loop-turns : goal.decreases-loop-turns
+decreases-loop-turns g l = l.turns

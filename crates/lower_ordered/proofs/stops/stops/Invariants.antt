@@ -1,0 +1,15 @@
+-- `lower_ordered::stops::stops` meets its contract.
+use Rattle.builder_table.specs.Work.{mem}
+use mathlib.Core.Path.{◌≡◌}
+use Prim.Native.Nat.{◌-◌, ◌≤◌}
+use lib.ListN.{length}
+use Rattle.lower_passes.specs.Stops.{stops_in}
+use Rattle.lower_ordered.proofs.stops.stops.Given as goal
+
+abbrev pub invariant-loop-k : goal.invariant-loop-k
+invariant-loop-k l =
+    (l.k ≤ l.n) × (length l.wires ≡ length l.initial.wires) × (length l.coefs ≡ length l.initial.coefs) × (length l.nums ≡ length l.initial.nums) × (length l.biases ≡ length l.initial.biases)
+    × (stops_in (mem l.wires l.coefs l.nums l.biases) l.room l.sum l.row l.k (l.n - l.k) ≡ stops_in (mem l.initial.wires l.initial.coefs l.initial.nums l.initial.biases) l.initial.room l.initial.sum l.row 0 l.n)
+
+abbrev pub decreases-loop-k : goal.decreases-loop-k
+decreases-loop-k l = l.n - l.k
