@@ -4,9 +4,9 @@
 --   palthengi: palthengi_check      check_number, tick_refusal specs/Refusal
 --   palthengi: palthengi_tick       tell, tick_refusal specs/Refusal
 --   palthengi: palthengi_validate   of_validated, tick_refusal specs/Refusal
---   wire_c: palthengi_value         answerOf, specs/Answers
---   wire_c: palthengi_op_value      answerOf, specs/Answers
---   wire_c: palthengi_evaluate      endedOf, specs/Answers; table_left, wire_eval specs/Evaluation
+--   wire_c: palthengi_value         answer_of, specs/Answers
+--   wire_c: palthengi_op_value      answer_of, specs/Answers
+--   wire_c: palthengi_evaluate      ended_of, specs/Answers; table_left, wire_eval specs/Evaluation
 --   wire_c: palthengi_layers        layered_number, layers_left, wire_layers specs/Layers
 --   wire_c: palthengi_depth         largest, wire_layers specs/Layers
 --   arena_c: palthengi_plus         plus_in, arena specs/Arena; row_of, specs/Flat

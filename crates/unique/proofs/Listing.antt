@@ -1,11 +1,11 @@
 -- The listing program's functions: each contract permits one outcome.
 --
---   list_text: write_line      lineOf, specs/Line
+--   list_text: write_line      line_of, specs/Line
 --   list_text: write_refused   refused_line, specs/Line
 --   list_text: write_bad       bad_line, specs/Line
 --   list_text: outer_at        outer_at, specs/Outer
 --   list_start: begin          begin_of, list_machine specs/Begin
---   list_rows: list_rows       rowsOf, specs/Rows
+--   list_rows: list_rows       rows_of, specs/Rows
 --   list_ends: finish          last_line, specs/Ends
 --   list_ends: move_down       unread, specs/Ends
 use mathlib.Core.Path.{refl, ◌∙⁻¹◌}

@@ -6,7 +6,7 @@
 --   exact: is_natural       natural, specs/Tests
 --   exact: is_small         small, specs/Tests
 --   exact: is_coefficient   coefficient, specs/Tests
---   exact: count            countOf, specs/Tests
+--   exact: count            count_of, specs/Tests
 --   index: Wire::position   its number
 use mathlib.Core.Path.{refl, ◌∙⁻¹◌}
 use Rattle.exact.proofs.of_cursor

@@ -3,7 +3,7 @@
 --   text: put_line           placed, specs/Text
 --   text: append *           Appended, specs/Text
 --   text: append_decimal *   Appended and decimal, specs/Text
---   refusal: write_refusal   lineOf, specs/Line
+--   refusal: write_refusal   line_of, specs/Line
 use mathlib.Core.Path.{◌∙⁻¹◌}
 use Rattle.text.proofs.Parts.{whole}
 use Rattle.text.proofs.put_line

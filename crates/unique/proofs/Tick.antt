@@ -4,7 +4,7 @@
 --   tick_verdict: values_verdict *   values_verdict, specs/Verdict
 --   tick_verdict: tick_verdict *     tick_verdict, specs/Verdict; 18
 --   tick_lane: read_outs *           out_value, specs/Evaluate
---   tick_lane: lane *                laneOf, specs/Lane; 15, 16 and 18
+--   tick_lane: lane *                lane_of, specs/Lane; 15, 16 and 18
 --   tick: tick                       tick_of, specs/Tick; 11 to 18
 --   tick_refusal: of_validated       of_validated, specs/Refusal
 --   tick_refusal: of_ticked          of_ticked, specs/Refusal

@@ -2,8 +2,8 @@
 --
 --   tree_kinds: row_of           row_of, specs/Kinds
 --   tree_record: read_record     record_at, specs/Record
---   tree_record: Cause::number   numberOf, specs/Refusal
---   tree_record: Cause::kind     kindOf, specs/Refusal
+--   tree_record: Cause::number   number_of, specs/Refusal
+--   tree_record: Cause::kind     kind_of, specs/Refusal
 --   tree: flatten                flat_of, specs/Tree; 1 to 8 by record_at and parse
 use mathlib.Core.Path.{refl, ◌∙⁻¹◌}
 use Rattle.tree_kinds.proofs.row_of

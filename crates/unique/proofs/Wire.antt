@@ -12,8 +12,8 @@
 --   wire_pool: run_ops *        table_after, specs/Values
 --   wire_read: is_readable      readable, specs/Reading
 --   wire_read: op_at            stored_op, specs/Reading
---   wire_read: op_is_readable   opReads, specs/Reading
---   wire_eval: value            valueOf, specs/Evaluation
+--   wire_read: op_is_readable   op_reads, specs/Reading
+--   wire_eval: value            value_of, specs/Evaluation
 --   wire_eval: op_value         op_value_of, specs/Evaluation
 --   wire_eval: evaluate         evaluated, table_left, specs/Evaluation
 --   wire_layers: layers         layered, layers_left, specs/Layers
