@@ -28,7 +28,7 @@ use Rattle.compile_laws.proofs.Compiles.{tree_circuit, stored_of, Slots}
 use Rattle.compile_laws.proofs.Images.{all_get_d}
 use Rattle.tick_laws.proofs.Values.{values_of}
 use Rattle.tick_laws.proofs.Fills.{bit_number}
-use Rattle.tick_laws.proofs.Bits.{node_at}
+use Rattle.tick_laws.proofs.Bits.{node_at_lem}
 use Rattle.tick_laws.proofs.Sound.{no_fate}
 use Rattle.demands.specs.Demands.{ValidRow, Ready, over, walked, OneOfThree, NeverBoth, Sure}
 use Rattle.demands.proofs.Once.{fate_count, outs_same}
@@ -67,7 +67,7 @@ module _ (f : Forest ℕ) (w : limits.Within f) (l : compile.Lent) (slots : Slot
   one_of_three : OneOfThree s table xs
   one_of_three i h =
       let st = (get_or xs i no_fate).would in
-      let a = node_at xs (means.cursors_of xs) i no_fate (omega (arith, nodes)) in
+      let a = node_at_lem xs (means.cursors_of xs) i no_fate (omega (arith, nodes)) in
       let same = map_at (λ (x : Fate). x.would) xs i Success no_fate (omega (arith, nodes)) in
       rw same (
         out_is (6 * i) (E.bit (is_success st)) (omega arith) (a.success ∙ sym (bit_number (is_success st))),

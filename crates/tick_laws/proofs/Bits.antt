@@ -91,12 +91,12 @@ pub record NodeAt (outs : List Float) (i : ℕ) (x : Fate) : Type 0 where
   pub halted : get_or outs (6 * i + 4) nan ≡ number (K.bit x.halted)
   pub next : get_or outs (6 * i + 5) nan ≡ number (K.bit (next_flag x))
 
-pub node_at : (xs : List Fate) (cs : List ℕ) (i : ℕ) (d : Fate) → i < length xs → NodeAt (numbers (bits_of xs ++ cs)) i (get_or xs i d)
+pub node_at_lem : (xs : List Fate) (cs : List ℕ) (i : ℕ) (d : Fate) → i < length xs → NodeAt (numbers (bits_of xs ++ cs)) i (get_or xs i d)
 unfolding bits_of
-node_at [] cs i d h = absurd (omega arith)
-node_at (x ∷ xs) cs zero d h = record { success = refl; failure = refl; running = refl; ticked = refl; halted = refl; next = refl }
-node_at (x ∷ xs) cs (suc i) d h =
-    let r = node_at xs cs i d (omega arith) in
+node_at_lem [] cs i d h = absurd (omega arith)
+node_at_lem (x ∷ xs) cs zero d h = record { success = refl; failure = refl; running = refl; ticked = refl; halted = refl; next = refl }
+node_at_lem (x ∷ xs) cs (suc i) d h =
+    let r = node_at_lem xs cs i d (omega arith) in
     let at : ℕ → Float = λ (j : ℕ). get_or (numbers (bits_of (x ∷ xs) ++ cs)) j nan in
     let e0 : 6 * suc i ≡ suc (suc (suc (suc (suc (suc (6 * i)))))) = omega arith in
     let e1 : 6 * suc i + 1 ≡ suc (suc (suc (suc (suc (suc (6 * i + 1)))))) = omega arith in

@@ -11,7 +11,7 @@ use Rattle.exact.specs.Tests.{is_bit, natural}
 use Rattle.index.specs.declared.NodeIndex.{NodeIndex}
 use Rattle.tick_verdict.specs.declared.Validated.{Validated}
 use Rattle.tick_verdict.specs.declared.Validated.TheVariants.{Sound, NotABit, NotOneHot, BadCursor}
-use Rattle.tick_verdict.specs.Verdict.{or_else, first_of, bit, one_hot, statuses, marks, node_of, cell_of, node_reach, cursor, cursor_at, low, low_at, values_verdict, tick_verdict}
+use Rattle.tick_verdict.specs.Verdict.{or_else, first_of, bit, one_hot, statuses, marks, node_of, cell_of, node_at, cursor, cursor_at, low, low_at, values_verdict, tick_verdict}
 use Rattle.walk.specs.Kind as K
 use Rattle.lists.specs.Every.{All}
 use Rattle.walk.specs.Status.{Status, Success, is_success, is_failure, is_running_status}
@@ -20,7 +20,7 @@ use Rattle.construct_floats.specs.Floats.{number}
 use Rattle.construct_faithful.proofs.Values.{numbers}
 use Rattle.compile_laws.proofs.Images.{all_get_d}
 use Rattle.tick_laws.proofs.Values.{bits_of}
-use Rattle.tick_laws.proofs.Bits.{bit_passes, status_sum, count_natural, count_low, NodeAt, node_at, cursor_at_lem}
+use Rattle.tick_laws.proofs.Bits.{bit_passes, status_sum, count_natural, count_low, NodeAt, node_at_lem, cursor_at_lem}
 
 first_all : (v : ℕ → Validated) (n : ℕ) → ((i : ℕ) → i < n → v i ≡ Sound) → first_of v n ≡ Sound
 unfolding first_of
@@ -38,8 +38,8 @@ hot_sound node s f r st es ef er =
     (λ i. let total = add binary32 (add binary32 (es i) (ef i)) (er i) in cond (lt one32 total) (NotOneHot node total) Sound)
     ∙ ap (λ (t : Bool). cond t (NotOneHot node (add binary32 (add binary32 (number (K.bit (is_success st))) (number (K.bit (is_failure st)))) (number (K.bit (is_running_status st))))) Sound) (status_sum st)
 
-node_sound : (outs : List Float) (i : ℕ) (x : Fate) → NodeAt outs i x → node_reach outs i ≡ Sound
-unfolding node_reach statuses marks
+node_sound : (outs : List Float) (i : ℕ) (x : Fate) → NodeAt outs i x → node_at outs i ≡ Sound
+unfolding node_at statuses marks
 node_sound outs i x a =
     let node = node_of i in
     λ j.
@@ -61,7 +61,7 @@ pub verdict_sound : (xs : List Fate) (cs : List ℕ) (n c : ℕ) → length xs �
 unfolding tick_verdict values_verdict cursor_at cursor low_at low
 verdict_sound xs cs n c en ec h =
     let outs = numbers (bits_of xs ++ cs) in
-    let nodes : first_of (node_reach outs) n ≡ Sound = first_all (node_reach outs) n (λ i b. node_sound outs i (get_or xs i no_fate) (node_at xs cs i no_fate (omega arith))) in
+    let nodes : first_of (node_at outs) n ≡ Sound = first_all (node_at outs) n (λ i b. node_sound outs i (get_or xs i no_fate) (node_at_lem xs cs i no_fate (omega arith))) in
     let whole : first_of (cursor_at outs n) c ≡ Sound = first_all (cursor_at outs n) c (λ i b.
     let v = get_or cs i 0 in
     let m = all_get_d (λ (v : ℕ). v ≤ 65535) cs i 0 h (omega arith) in

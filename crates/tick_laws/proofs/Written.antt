@@ -20,7 +20,7 @@ use Rattle.construct_faithful.proofs.Values.{numbers}
 use Rattle.lists.proofs.Sets.{map_at}
 use Rattle.compile_laws.proofs.Images.{all_get_d}
 use Rattle.tick_laws.proofs.Values.{bits_of}
-use Rattle.tick_laws.proofs.Bits.{bit_set, bit_back, count_back, NodeAt, node_at, cursor_at_lem}
+use Rattle.tick_laws.proofs.Bits.{bit_set, bit_back, count_back, NodeAt, node_at_lem, cursor_at_lem}
 use Rattle.tick_laws.proofs.Sound.{no_fate}
 
 -- a list in the first places, and the rest as it was
@@ -68,7 +68,7 @@ module _ (xs : List Fate) (cs : List ℕ) (n c : ℕ) (nodes : length xs ≡ n) 
   outs = numbers (bits_of xs ++ cs)
 
   at : (k : ℕ) → k < n → NodeAt outs k (get_or xs k no_fate)
-  at k h = node_at xs cs k no_fate (omega arith)
+  at k h = node_at_lem xs cs k no_fate (omega arith)
 
   pub statuses_are : (old : List ℕ) → prefix (status_at outs) n old ≡ map status xs ++ drop (length (map status xs)) old
   statuses_are old =

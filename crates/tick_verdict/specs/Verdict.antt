@@ -48,9 +48,9 @@ abbrev pub cell_of : ℕ → CursorCell
 cell_of i = record { 0 = i }
 
 -- the six values of node i
-unfoldable pub node_reach : List Float → ℕ → Validated
+unfoldable pub node_at : List Float → ℕ → Validated
 unfolding statuses marks
-node_reach outs i =
+node_at outs i =
     or_else (statuses (node_of i) (get_or outs (6 * i) nan) (get_or outs (6 * i + 1) nan) (get_or outs (6 * i + 2) nan)) (marks (node_of i) (get_or outs (6 * i + 3) nan) (get_or outs (6 * i + 4) nan) (get_or outs (6 * i + 5) nan))
 
 -- "then each cursor is neither negative nor fractional, where NaN and the infinities count as fractional"
@@ -71,8 +71,8 @@ low_at outs nodes c = low (cell_of c) (get_or outs (6 * nodes + c) nan)
 
 -- validation: node by node, then the cursors
 unfoldable pub values_verdict : List Float → ℕ → ℕ → Validated
-unfolding first_of node_reach cursor_at
-values_verdict outs nodes cursors = or_else (first_of (node_reach outs) nodes) (first_of (cursor_at outs nodes) cursors)
+unfolding first_of node_at cursor_at
+values_verdict outs nodes cursors = or_else (first_of (node_at outs) nodes) (first_of (cursor_at outs nodes) cursors)
 
 -- the tick's: validation, "else the first next cursor above 65,535"
 unfoldable pub tick_verdict : List Float → ℕ → ℕ → Validated

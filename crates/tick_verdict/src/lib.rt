@@ -2,7 +2,7 @@
 #![tactic(auto)]
 
 ghost use Rattle.std.specs.Prelude.{◌≡◌, ◌+◌, ◌*◌, ◌≤◌, ◌<◌, length};
-ghost use Rattle.tick_verdict.specs.Verdict.{bit, one_hot, statuses, marks, node_reach, cursor, cursor_at, low, low_at, first_of, values_verdict, tick_verdict};
+ghost use Rattle.tick_verdict.specs.Verdict.{bit, one_hot, statuses, marks, node_at, cursor, cursor_at, low, low_at, first_of, values_verdict, tick_verdict};
 
 use index::{CursorCell, NodeIndex};
 
@@ -70,7 +70,7 @@ fn marks(node: NodeIndex, reached: f32, halted: f32, next: f32) -> Validated
 
 fn node(outs: &[f32], i: usize) -> Validated
     requires { 6 * i + 5 < length outs.now }
-    ensures { result ≡ node_reach outs.now i }
+    ensures { result ≡ node_at outs.now i }
 {
     let at = 6 * i;
     let s = statuses(NodeIndex(i), outs[at], outs[at + 1], outs[at + 2]);
@@ -82,7 +82,7 @@ fn node(outs: &[f32], i: usize) -> Validated
 
 fn nodes_verdict(outs: &[f32], nodes: usize) -> Validated
     requires { 6 * nodes ≤ length outs.now }
-    ensures { result ≡ first_of (node_reach outs.now) nodes }
+    ensures { result ≡ first_of (node_at outs.now) nodes }
 {
     let mut i = 0usize;
     while i < nodes {
