@@ -54,11 +54,11 @@ def headlines():
         return set(re.findall(r'`([^`\s]+)`', file.read()))
 
 
-# ---- proof text: all of an .antt file, the contracts of an .rt file
+# ---- proof text: all of an .antt file, the contracts and ghost fields of an .rt file
 
 USE = re.compile(r'^[ \t]*(?:ghost )?use ([^\s{;:]+?)(?:\.\{([^}]*)\}| as (\S+?));?[ \t]*$', re.M)
 TOKEN = re.compile(r'[^\s(){};,.⌜⌝«»@]+')
-CLAUSE = re.compile(r'\b(?:requires|ensures)\*?(?: \w+)? \{')
+CLAUSE = re.compile(r'\b(?:(?:requires|ensures)\*?(?: \w+)?|ghost \w+(?::| =)) \{')
 
 
 def clauses(text):
@@ -133,6 +133,19 @@ def imports(path):
     return found
 
 
+# `using(crate::proofs::M::lemma, ..)` and `unfolding(..)` of a function's attribute.
+HINTS = re.compile(r'\b(?:using|unfolding)\(([^)]*)\)')
+
+
+def hinted(path):
+    """What the attributes of an .rt file name: pairs of a module and a name."""
+    own = path.split('/')[1]
+    for hints in HINTS.finditer(text_of(path)):
+        for item in hints[1].split(','):
+            crate, part, *rest = item.strip().split('::')
+            yield (own if crate == 'crate' else crate, part, '.'.join(rest[:-1])), rest[-1]
+
+
 def module_of(path):
     """How imports name an .antt file: (crate, specs or proofs, path)."""
     _, crate, part, *rest = path[:-len('.antt')].split('/')
@@ -196,7 +209,7 @@ def declared(path):
     """The declarations of an .antt file, not a record's fields nor constructors by themselves."""
     lines, found, inside = text_of(path).split('\n'), [], None
     for at, line in enumerate(lines):
-        if not line.strip() or (inside is not None and indent_of(line) > inside):
+        if not line.strip() or (found and at < found[-1].end) or (inside is not None and indent_of(line) > inside):
             continue
         inside, head = None, HEAD.match(line)
         if not head or head[4] in RESERVED:

@@ -1,4 +1,5 @@
--- The operations of crate arena_terms, specs/Sums, in an arena: the terms in use are those of the two lent pools below `used`, and a new form's terms are written right past them.
+-- The operations of crate arena_terms, specs/Sums, in an arena: the terms in use are those of the two lent pools below `used`, and a new form's terms are
+-- written right past them.
 -- An operation answers a form and the room that is left. Where there was no room it writes nothing, and the flag `ok` falls and stays down.
 -- Inner: the shape of the code; nobody need believe it.
 use Rattle.std.specs.Prelude.{ℕ, ◌+◌, ◌≡◌, List, [], ◌∷◌, true, false, cond, length, eqb, Float}
@@ -13,7 +14,6 @@ use Rattle.wire.specs.Storage.{term_slots}
 use Rattle.arena_terms.specs.Sums.{kept, merge, times, scaled_terms}
 use Rattle.arena_terms.specs.Steps.{wires_in, coefs_in}
 use Rattle.arena_room.specs.declared.Room.{Room}
-use Rattle.arena_room.specs.declared.Formed.{Formed}
 use Rattle.arena_room.specs.Fits.{single_fits, fits_sum, fits_scaled}
 
 -- what an operation leaves and answers
@@ -22,6 +22,14 @@ pub record Outcome : Type 0 where
   pub coefs : List Float
   pub form : Form
   pub room : Room
+
+-- a form that was made, and the room that is left
+pub record Formed : Type 0 where
+  pub form : Form
+  pub room : Room
+
+abbrev pub formed : Form → Room → Formed
+formed f room = record { form = f; room = room }
 
 -- the pools end as ws and cs, and the answer is r, as the outcome says
 pub record Leaves (o : Outcome) (ws : List ℕ) (cs : List Float) (r : Formed) : Type 0 where

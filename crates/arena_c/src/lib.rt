@@ -5,7 +5,8 @@ ghost use Rattle.std.specs.Prelude.{◌≡◌, true};
 ghost use Rattle.arena.specs.Arena.{plus_in, scaled_in, one_minus_in};
 ghost use Rattle.arena_c.specs.Flat.{Leaves};
 
-use arena_room::{Formed, Room};
+use arena::Arena;
+use arena_room::Room;
 use wire::Form;
 
 #[repr(C)]
@@ -18,11 +19,9 @@ pub struct Row {
     pub ok: bool,
 }
 
-fn row_of(r: Formed) -> Row
-    ensures { result ≡ record { bias = r.form.bias; first = r.form.first; len = r.form.len; used = r.room.used; ok = r.room.ok } }
+fn row_of(f: Form, room: Room) -> Row
+    ensures { result ≡ record { bias = f.bias; first = f.first; len = f.len; used = room.used; ok = room.ok } }
 {
-    let f = r.form;
-    let room = r.room;
     Row {
         bias: f.bias,
         first: f.first,
@@ -44,9 +43,11 @@ pub fn palthengi_plus(
     bfirst: usize,
     blen: usize,
 ) -> Row
-    ensures { Leaves (plus_in wires.old coefs.old (record { used = used; ok = true }) (record { bias = a; first = afirst; len = alen }) (record { bias = b; first = bfirst; len = blen })) wires.new coefs.new result }
+    ensures { Leaves
+        (plus_in wires.old coefs.old (record { used = used; ok = true })
+        (record { bias = a; first = afirst; len = alen }) (record { bias = b; first = bfirst; len = blen }))
+        wires.new coefs.new result }
 {
-    let room = Room { used, ok: true };
     let left = Form {
         bias: a,
         first: afirst,
@@ -57,7 +58,10 @@ pub fn palthengi_plus(
         first: bfirst,
         len: blen,
     };
-    row_of(arena::plus(wires, coefs, room, left, right))
+    let room = Room { used, ok: true };
+    let mut arena = Arena { wires, coefs, room };
+    let form = arena.plus(left, right);
+    row_of(form, arena.room)
 }
 
 // factor * a
@@ -70,15 +74,18 @@ pub fn palthengi_scaled(
     len: usize,
     factor: f32,
 ) -> Row
-    ensures { Leaves (scaled_in wires.old coefs.old (record { used = used; ok = true }) (record { bias = a; first = first; len = len }) factor) wires.new coefs.new result }
+    ensures { Leaves (scaled_in wires.old coefs.old (record { used = used; ok = true }) (record { bias = a; first = first; len = len }) factor)
+        wires.new coefs.new result }
 {
-    let room = Room { used, ok: true };
     let form = Form {
         bias: a,
         first,
         len,
     };
-    row_of(arena::scaled(wires, coefs, room, form, factor))
+    let room = Room { used, ok: true };
+    let mut arena = Arena { wires, coefs, room };
+    let form = arena.scaled(form, factor);
+    row_of(form, arena.room)
 }
 
 // 1 - a
@@ -90,13 +97,16 @@ pub fn palthengi_one_minus(
     first: usize,
     len: usize,
 ) -> Row
-    ensures { Leaves (one_minus_in wires.old coefs.old (record { used = used; ok = true }) (record { bias = a; first = first; len = len })) wires.new coefs.new result }
+    ensures { Leaves (one_minus_in wires.old coefs.old (record { used = used; ok = true }) (record { bias = a; first = first; len = len }))
+        wires.new coefs.new result }
 {
-    let room = Room { used, ok: true };
     let form = Form {
         bias: a,
         first,
         len,
     };
-    row_of(arena::one_minus(wires, coefs, room, form))
+    let room = Room { used, ok: true };
+    let mut arena = Arena { wires, coefs, room };
+    let form = arena.one_minus(form);
+    row_of(form, arena.room)
 }

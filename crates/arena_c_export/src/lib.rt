@@ -19,7 +19,10 @@ pub extern "C" fn palthengi_plus(
     bfirst: usize,
     blen: usize,
 ) -> Row
-    ensures { Leaves (plus_in wires.old coefs.old (record { used = used; ok = true }) (record { bias = a; first = afirst; len = alen }) (record { bias = b; first = bfirst; len = blen })) wires.new coefs.new result }
+    ensures { Leaves
+        (plus_in wires.old coefs.old (record { used = used; ok = true })
+        (record { bias = a; first = afirst; len = alen }) (record { bias = b; first = bfirst; len = blen }))
+        wires.new coefs.new result }
 {
     arena_c::palthengi_plus(wires, coefs, used, a, afirst, alen, b, bfirst, blen)
 }
@@ -34,7 +37,8 @@ pub extern "C" fn palthengi_scaled(
     len: usize,
     factor: f32,
 ) -> Row
-    ensures { Leaves (scaled_in wires.old coefs.old (record { used = used; ok = true }) (record { bias = a; first = first; len = len }) factor) wires.new coefs.new result }
+    ensures { Leaves (scaled_in wires.old coefs.old (record { used = used; ok = true }) (record { bias = a; first = first; len = len }) factor)
+        wires.new coefs.new result }
 {
     arena_c::palthengi_scaled(wires, coefs, used, a, first, len, factor)
 }
@@ -48,7 +52,8 @@ pub extern "C" fn palthengi_one_minus(
     first: usize,
     len: usize,
 ) -> Row
-    ensures { Leaves (one_minus_in wires.old coefs.old (record { used = used; ok = true }) (record { bias = a; first = first; len = len })) wires.new coefs.new result }
+    ensures { Leaves (one_minus_in wires.old coefs.old (record { used = used; ok = true }) (record { bias = a; first = first; len = len }))
+        wires.new coefs.new result }
 {
     arena_c::palthengi_one_minus(wires, coefs, used, a, first, len)
 }

@@ -3,8 +3,9 @@
 use mathlib.Core.Path.{◌≡◌, refl, sym, ap, ◌∙◌}
 use mathlib.Core.List.{List, [], ◌∷◌}
 use mathlib.Core.Bool.{Bool, true, false, ◌&&◌, cond, false≢true}
-use Prim.Native.Nat.{ℕ, ◌+◌, ◌≤◌}
+use Prim.Native.Nat.{ℕ, ◌+◌, ◌≤◌, ◌<◌}
 use native.Mathlib.Omega.{arith}
+use Rattle.std.proofs.lemmas.Bool.Decides.{nat_tests}
 use borrow.Author.Tests.{eqb-true, eqb-false, le-leb, lt-ltb}
 use lib.Dec.{eqb}
 use lib.ListN.{length}
@@ -18,15 +19,13 @@ use Rattle.wire.specs.Terms.{Affine, term_at, part, terms_of, constant_form}
 use Rattle.wire.specs.Storage.{term_slots}
 use Rattle.lists.proofs.Entries.{each_length}
 use Rattle.arena_room.specs.declared.Room.{Room}
-use Rattle.arena_room.specs.declared.Formed.{Formed}
 use Rattle.arena_terms.specs.Sums.{kept, merge, summed, scaled_terms, times, constant, single, offset, scaled, one_minus, plus}
 use Rattle.arena_room.specs.Fits.{single_fits, fits_sum, fits_scaled}
-use Rattle.arena.specs.Arena.{Outcome, Leaves, refused_in, shared_in, written_in, offset_form, single_in, plus_in, scaled_in, one_minus_in}
+use Rattle.arena.specs.Arena.{Outcome, Formed, Leaves, refused_in, shared_in, written_in, offset_form, single_in, plus_in, scaled_in, one_minus_in}
 use Rattle.arena_terms.specs.Steps.{wires_in, coefs_in, Put}
 use Rattle.arena_laws.specs.Holds.{Is, Holds, Grows, Lives}
 use Rattle.arena_terms.proofs.Put.{put_keeps, put_own}
 use Rattle.arena_laws.proofs.Lengths.{merged_length, scaled_length}
-use Rattle.arena.proofs.Outcome.{sum_fits, scaled_fits, single_fits_lem}
 use Rattle.lists.proofs.Tests.{both_sides}
 
 -- ---- forms that stand for values
@@ -110,6 +109,17 @@ module _ (ws : List ℕ) (cs : List Float) (room : Room) (bias : Float) (ts : Li
       go : (fits ≡ true) × (length ts ≤ need) → (tried.room.ok ≡ true) × (tried.room.used ≤ room.used + need)
       go h = either (λ (o : Outcome). (o.room.ok ≡ true) × (o.room.used ≤ room.used + need)) fits (written_in ws cs room.used bias ts) (refused_in ws cs room) (λ e. (refl, omega (arith, h.1))) (λ e. absurd (false≢true (sym e ∙ h.0)))
 
+-- ---- room for an operation
+
+single_room : (slots : ℕ) (room : Room) → single_fits slots room ≡ true → room.used < slots
+single_room slots room e = grind (arith, nat_tests)
+
+scaled_room : (slots : ℕ) (room : Room) (a : Form) → fits_scaled slots room a ≡ true → room.used + a.len ≤ slots
+scaled_room slots room a e = grind (arith, nat_tests)
+
+sum_room : (slots : ℕ) (room : Room) (a b : Form) → fits_sum slots room a b ≡ true → room.used + a.len + b.len ≤ slots
+sum_room slots room a b e = grind (arith, nat_tests)
+
 -- ---- one wire
 
 module _ (ws : List ℕ) (cs : List Float) (room : Room) (w : ℕ) {ws' : List ℕ} {cs' : List Float} {r : Formed} (l : Leaves (single_in ws cs room w) ws' cs' r) where
@@ -125,7 +135,7 @@ module _ (ws : List ℕ) (cs : List Float) (room : Room) (w : ℕ) {ws' : List �
 
   pub single_holds : Holds ws' cs' r.room r.form (single w)
   unfolding single_in tried single
-  single_holds = left_holds l (tried_holds ws cs room zero32 one_term single_fit (single w) (λ e. let h = single_fits_lem _ room e in omega arith) (λ e. (refl, refl)))
+  single_holds = left_holds l (tried_holds ws cs room zero32 one_term single_fit (single w) (λ e. let room_for = single_room _ room e in omega arith) (λ e. (refl, refl)))
 
   pub single_lives : Lives (term_slots (length ws) (length cs)) room r.room 1
   unfolding single_in tried
@@ -155,7 +165,7 @@ module _ (ws : List ℕ) (cs : List Float) (room : Room) (a : Form) (factor : Fl
   scaled_holds {x} h =
       left_holds l
       (tried_holds ws cs room (times factor a.bias) scaled_new scaled_fit (scaled factor x)
-      (λ e. let f = scaled_fits _ room a e in omega (arith, f.enough, new_length))
+      (λ e. let room_for = scaled_room _ room a e in omega (arith, new_length))
       (λ e. let q = h.holds (both_sides _ _ e).0 in (ap (times factor) q.bias, ap (scaled_terms factor) q.terms)))
 
   pub scaled_lives : {x : Affine} → Holds ws cs room a x → Lives (term_slots (length ws) (length cs)) room r.room (length x.terms)
@@ -253,7 +263,7 @@ module _ (ws : List ℕ) (cs : List Float) (room : Room) (a b : Form) where
               record { below = q.below; terms = q.terms ∙ sym (none_summed x.terms y.terms (sym (is_length p) ∙ e)); bias = λ i. add binary32 (p.bias i) (q.bias i) };
         })
         (λ n m. tried_holds ws cs room sum_bias sum_new sum_fit (plus x y)
-        (λ e. let f = sum_fits _ room a b e in omega (arith, f.enough, sum_length))
+        (λ e. let room_for = sum_room _ room a b e in omega (arith, sum_length))
         (λ e. let t = (both_sides _ _ e).0 in let p = ha.holds t in let q = hb.holds t in (
           (λ i. add binary32 (p.bias i) (q.bias i)),
           (λ i. kept (merge (p.terms i) (q.terms i))) ∙ some_summed x.terms y.terms (λ z. n (is_length p ∙ z)) (λ z. m (is_length q ∙ z)),

@@ -31,21 +31,29 @@ module _ {A : Type 0} where
 
 -- ---- parts of the pools
 
-part_sets : (ws : List ℕ) (cs : List Float) (k : ℕ) (ts : List Term) (i n : ℕ) → i + n ≤ k → part (sets ws k (wires_in ts)) (sets cs k (coefs_in ts)) i n ≡ part ws cs i n
+part_sets : (ws : List ℕ) (cs : List Float) (k : ℕ) (ts : List Term) (i n : ℕ) → i + n ≤ k
+    → part (sets ws k (wires_in ts)) (sets cs k (coefs_in ts)) i n ≡ part ws cs i n
 unfolding part
 part_sets ws cs k ts i n h =
     each_same (term_at (sets ws k (wires_in ts)) (sets cs k (coefs_in ts))) (term_at ws cs) i n
-    (λ m a b j. record { wire = record { 0 = sets_before (wires_in ts) ws k m 0 (omega arith) j }; coef = sets_before (coefs_in ts) cs k m nan (omega arith) j })
+    (λ m a b j. record {
+      wire = record { 0 = sets_before (wires_in ts) ws k m 0 (omega arith) j };
+      coef = sets_before (coefs_in ts) cs k m nan (omega arith) j;
+    })
 
-part_own : (ts : List Term) (ws : List ℕ) (cs : List Float) (k : ℕ) → k + length ts ≤ length ws → k + length ts ≤ length cs → part (sets ws k (wires_in ts)) (sets cs k (coefs_in ts)) k (length ts) ≡ ts
+part_own : (ts : List Term) (ws : List ℕ) (cs : List Float) (k : ℕ) → k + length ts ≤ length ws → k + length ts ≤ length cs
+    → part (sets ws k (wires_in ts)) (sets cs k (coefs_in ts)) k (length ts) ≡ ts
 unfolding part each
 part_own [] ws cs k hw hc = refl
 part_own (t ∷ ts) ws cs k hw hc =
     let ws' = set ws k t.wire.0 in
     let cs' = set cs k t.coef in
-    let w : get_or (sets ws' (suc k) (wires_in ts)) k 0 ≡ t.wire.0 = sets_before (wires_in ts) ws' (suc k) k 0 (omega arith) ∙ get_or-set_same ws k t.wire.0 0 (omega arith) in
-    let c : get_or (sets cs' (suc k) (coefs_in ts)) k nan ≡ t.coef = sets_before (coefs_in ts) cs' (suc k) k nan (omega arith) ∙ get_or-set_same cs k t.coef nan (omega arith) in
-    λ j. record { wire = record { 0 = w j }; coef = c j } ∷ part_own ts ws' cs' (suc k) (omega (arith, length-set ws k t.wire.0)) (omega (arith, length-set cs k t.coef)) j
+    let w : get_or (sets ws' (suc k) (wires_in ts)) k 0 ≡ t.wire.0 =
+    sets_before (wires_in ts) ws' (suc k) k 0 (omega arith) ∙ get_or-set_same ws k t.wire.0 0 (omega arith) in
+    let c : get_or (sets cs' (suc k) (coefs_in ts)) k nan ≡ t.coef =
+    sets_before (coefs_in ts) cs' (suc k) k nan (omega arith) ∙ get_or-set_same cs k t.coef nan (omega arith) in
+    let rest = part_own ts ws' cs' (suc k) (omega (arith, length-set ws k t.wire.0)) (omega (arith, length-set cs k t.coef)) in
+    λ j. record { wire = record { 0 = w j }; coef = c j } ∷ rest j
 
 -- ---- terms put at an index
 
@@ -69,22 +77,29 @@ module _ {ws : List ℕ} {cs : List Float} {k : ℕ} {ts : List Term} {ws' : Lis
         used = omega (arith, length-append ts us, p.used, q.used);
       }
 
--- ---- one term, unless its coefficient is 0
+-- ---- a loop that puts terms one by one
 
-module _ (ws : List ℕ) (cs : List Float) (k : ℕ) (t : Term) where
-  pub put_zero : eq t.coef zero32 ≡ true → Put ws cs k (kept (t ∷ [])) ws cs k
-  unfolding kept
-  put_zero e = rw e (put_nil ws cs k)
+-- putting what is left, from here on, leaves of the pools what putting all of it left from the start
+pub record Going (ws : List ℕ) (cs : List Float) (at : ℕ) (left : List Term) (ws₀ : List ℕ) (cs₀ : List Float) (at₀ : ℕ) (all : List Term) : Type 0 where
+  pub wires : sets ws at (wires_in left) ≡ sets ws₀ at₀ (wires_in all)
+  pub coefs : sets cs at (coefs_in left) ≡ sets cs₀ at₀ (coefs_in all)
+  pub used : at + length left ≡ at₀ + length all
 
-  pub put_one : eq t.coef zero32 ≡ false → Put ws cs k (kept (t ∷ [])) (set ws k t.wire.0) (set cs k t.coef) (k + 1)
-  unfolding kept
-  put_one e = rw e (record { wires = refl; coefs = refl; used = refl })
+module _ {ws₀ : List ℕ} {cs₀ : List Float} {at₀ : ℕ} {all : List Term} where
+  pub going_end : {ws : List ℕ} {cs : List Float} {at : ℕ} → Going ws cs at [] ws₀ cs₀ at₀ all → Put ws₀ cs₀ at₀ all ws cs at
+  going_end g = record { wires = g.wires; coefs = g.coefs; used = omega (arith, g.used) }
 
-pub put_short : (t : Term) {ws : List ℕ} {cs : List Float} {k : ℕ} {ws' : List ℕ} {cs' : List Float} {k' : ℕ}
-    → Put ws cs k (kept (t ∷ [])) ws' cs' k' → k' ≤ k + 1
-unfolding kept
-put_short t p = omega (arith, p.used, go (eq t.coef zero32))
-  where
-    go : (b : Bool) → length (cond b [] (t ∷ [])) ≤ 1
-    go true = omega arith
-    go false = omega arith
+  -- the first term put, unless its coefficient is 0
+  module _ (t : Term) (ts : List Term) {ws : List ℕ} {cs : List Float} {at : ℕ} {ws' : List ℕ} {cs' : List Float} {at' : ℕ} where
+    by_test : (b : Bool) → Going ws cs at (cond b (kept ts) (t ∷ kept ts)) ws₀ cs₀ at₀ all → Put ws cs at (cond b [] (t ∷ [])) ws' cs' at'
+        → Going ws' cs' at' (kept ts) ws₀ cs₀ at₀ all
+    by_test true g p =
+        let q : at' ≡ at = omega (arith, p.used) in
+        record { wires = rw (p.wires, q) g.wires; coefs = rw (p.coefs, q) g.coefs; used = omega (arith, g.used) }
+    by_test false g p =
+        let q : at' ≡ suc at = omega (arith, p.used) in
+        record { wires = rw (p.wires, q) g.wires; coefs = rw (p.coefs, q) g.coefs; used = omega (arith, g.used) }
+
+    pub going_on : Going ws cs at (kept (t ∷ ts)) ws₀ cs₀ at₀ all → Put ws cs at (kept (t ∷ [])) ws' cs' at' → Going ws' cs' at' (kept ts) ws₀ cs₀ at₀ all
+    unfolding kept
+    going_on = by_test (eq t.coef zero32)

@@ -1,8 +1,9 @@
 -- What writing terms to the two pools does: terms put at an index, and one step of a merge. Inner: the shape of the code; nobody need believe it.
-use Rattle.std.specs.Prelude.{ℕ, ◌+◌, ◌-◌, ◌≤◌, ◌<◌, ◌≡◌, List, ◌∷◌, map, length, Float}
+use Rattle.std.specs.Prelude.{ℕ, Bool, MatchBool, ◌+◌, ◌<◌, ◌≤◌, ◌≡◌, List, ◌∷◌, map, length, get_or, Float}
 use Rattle.std.proofs.lemmas.List.Edits.{sets}
+use Rattle.wire.specs.declared.Form.{Form}
 use Rattle.wire.specs.declared.Term.{Term}
-use Rattle.wire.specs.Terms.{part}
+use Rattle.wire.specs.Terms.{terms_of}
 use Rattle.arena_terms.specs.declared.terms.Next.{Next}
 use Rattle.arena_terms.specs.Sums.{merge}
 
@@ -19,10 +20,15 @@ pub record Put (ws : List ℕ) (cs : List Float) (at : ℕ) (ts : List Term) (ws
   pub coefs : cs' ≡ sets cs at (coefs_in ts)
   pub used : next ≡ at + length ts
 
--- one term taken off one list or one off each, of the terms from i up to ie and from j up to je
-pub record Stepped (ws : List ℕ) (cs : List Float) (i ie j je : ℕ) (r : Next) : Type 0 where
-  pub merged : merge (part ws cs i (ie - i)) (part ws cs j (je - j))
-      ≡ r.term ∷ merge (part ws cs r.i (ie - r.i)) (part ws cs r.j (je - r.j))
-  pub i_high : r.i ≤ ie
-  pub j_high : r.j ≤ je
-  pub more : i + j < r.i + r.j
+-- what a test says of two forms: the first has a lower first wire than the other, or not; a form at its end has none
+abbrev pub IsLower : List ℕ → Form → Form → Bool → Type 0
+IsLower ws a b r = MatchBool r
+    ((0 < a.len) × (0 < b.len → get_or ws a.first 0 < get_or ws b.first 0))
+    (0 < a.len → (0 < b.len) × (get_or ws b.first 0 ≤ get_or ws a.first 0))
+
+-- one term taken off one form or one off each
+pub record Stepped (ws : List ℕ) (cs : List Float) (a b : Form) (r : Next) : Type 0 where
+  pub merged : merge (terms_of ws cs a) (terms_of ws cs b) ≡ r.term ∷ merge (terms_of ws cs r.a) (terms_of ws cs r.b)
+  pub a_end : r.a.first + r.a.len ≡ a.first + a.len
+  pub b_end : r.b.first + r.b.len ≡ b.first + b.len
+  pub fewer : r.a.len + r.b.len < a.len + b.len

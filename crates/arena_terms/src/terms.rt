@@ -1,79 +1,95 @@
-// Terms of sums, one at a time, in two lent pools: the next term of a merge of two parts, and a term written. An inner crate.
-ghost use Rattle.std.specs.Prelude.{[], ◌∷◌, ◌+◌, ◌≤◌, ◌<◌, length};
+// Terms of sums, one at a time, in two lent pools: the next term of a merge of two forms, and a term written. An inner crate.
+ghost use Rattle.std.specs.Prelude.{◌≡◌, [], ◌∷◌, ◌+◌, ◌-◌, ◌^◌, ◌≤◌, ◌<◌, length};
+ghost use Rattle.wire.specs.Terms.{term_at as termOf};
 ghost use Rattle.arena_terms.specs.Sums.{kept};
-ghost use Rattle.arena_terms.specs.Steps.{Put, Stepped};
+ghost use Rattle.arena_terms.specs.Steps.{Put, Stepped, IsLower};
 
 use index::Wire;
-use wire::Term;
+use wire::{Form, Term};
 
-// The next term of a merge of those from i up to ie with those from j up to je, and where both then stand.
+// The next term of a merge of two forms, and what is left of each.
 #[derive(Clone, Copy)]
 pub struct Next {
     pub term: Term,
-    pub i: usize,
-    pub j: usize,
+    pub a: Form,
+    pub b: Form,
 }
 
-pub fn next_term(wires: &[u32], coefs: &[f32], i: usize, ie: usize, j: usize, je: usize) -> Next
-    requires i_le_ie { (i ≤ ie) × (j ≤ je) × (i + j < ie + je) }
-    requires ie_in_bounds { (ie ≤ length wires.now) × (ie ≤ length coefs.now) × (je ≤ length wires.now) × (je ≤ length coefs.now) }
-    ensures { Stepped wires.now coefs.now i ie j je result }
+// The term at an index of the pools.
+pub fn term_at(wires: &[u32], coefs: &[f32], i: usize) -> Term
+    requires { (i < length wires.now) × (i < length coefs.now) }
+    ensures { result ≡ termOf wires.now coefs.now i }
 {
-    if je <= j {
-        let term = Term {
-            wire: Wire(wires[i]),
-            coef: coefs[i],
-        };
-        return Next { term, i: i + 1, j };
+    Term {
+        wire: Wire(wires[i]),
+        coef: coefs[i],
     }
-    if ie <= i {
-        let term = Term {
-            wire: Wire(wires[j]),
-            coef: coefs[j],
-        };
-        return Next { term, i, j: j + 1 };
+}
+
+// A form past its first term.
+fn rest(f: Form) -> Form
+    requires { (0 < f.len) × (f.first + f.len < 2 ^ 64) }
+    ensures { result ≡ record f { first = f.first + 1; len = f.len - 1 } }
+{
+    Form {
+        first: f.first + 1,
+        len: f.len - 1,
+        ..f
     }
-    let w = wires[i];
-    let v = wires[j];
-    let c = coefs[i];
-    let d = coefs[j];
-    if w < v {
-        let term = Term {
-            wire: Wire(w),
-            coef: c,
+}
+
+// Whether the first form has the lower first wire; a form at its end has none.
+fn is_lower(wires: &[u32], a: Form, b: Form) -> bool
+    requires some_left { 0 < a.len + b.len }
+    requires in_bounds { (a.first + a.len ≤ length wires.now) × (b.first + b.len ≤ length wires.now) }
+    ensures { IsLower wires.now a b result }
+{
+    b.len == 0 || (a.len > 0 && wires[a.first] < wires[b.first])
+}
+
+// The first term of the merge of two forms: of the form whose wire is lower, or of both where their wires are equal. Two tests, since a match on
+// the order of the wires merges slower, by a fifth.
+#[tactic(auto, using(crate::proofs::First::from_a, crate::proofs::First::from_b, crate::proofs::First::from_both))]
+pub fn next_term(wires: &[u32], coefs: &[f32], a: Form, b: Form) -> Next
+    requires some_left { 0 < a.len + b.len }
+    requires wires_in_bounds { (a.first + a.len ≤ length wires.now) × (b.first + b.len ≤ length wires.now) }
+    requires coefs_in_bounds { (a.first + a.len ≤ length coefs.now) × (b.first + b.len ≤ length coefs.now) }
+    ensures { Stepped wires.now coefs.now a b result }
+{
+    if is_lower(wires, a, b) {
+        return Next {
+            term: term_at(wires, coefs, a.first),
+            a: rest(a),
+            b,
         };
-        return Next { term, i: i + 1, j };
     }
-    if v < w {
-        let term = Term {
-            wire: Wire(v),
-            coef: d,
+    if is_lower(wires, b, a) {
+        return Next {
+            term: term_at(wires, coefs, b.first),
+            a,
+            b: rest(b),
         };
-        return Next { term, i, j: j + 1 };
     }
-    let term = Term {
-        wire: Wire(w),
-        coef: c + d,
-    };
     Next {
-        term,
-        i: i + 1,
-        j: j + 1,
+        term: Term {
+            wire: Wire(wires[a.first]),
+            coef: coefs[a.first] + coefs[b.first],
+        },
+        a: rest(a),
+        b: rest(b),
     }
 }
 
 // Writes the term, unless its coefficient is zero; answers the index past it.
+#[tactic(auto, unfolding(crate::specs::Sums::kept))]
 pub fn push_term(wires: &mut [u32], coefs: &mut [f32], at: usize, t: Term) -> usize
     requires { (at < length wires.old) × (at < length coefs.old) }
     ensures { Put wires.old coefs.old at (kept (t ∷ [])) wires.new coefs.new result }
 {
-    let w = t.wire;
-    let number = w.0;
-    let coef = t.coef;
-    if coef == 0.0 {
+    if t.coef == 0.0 {
         return at;
     }
-    wires[at] = number;
-    coefs[at] = coef;
+    wires[at] = t.wire.0;
+    coefs[at] = t.coef;
     at + 1
 }

@@ -1,15 +1,15 @@
-// builder.rs: bit algebra and comparisons. A bit or a count is a form in the lent arena; each operation makes exactly its op, or none where an operand is
-// constant. The two identities hold of counts, which are natural numbers:
+// builder.rs: bit algebra and comparisons. A bit or a count is a form in the builder's arena; each operation makes exactly its op, or none where an operand
+// is constant. The two identities hold of counts, which are natural numbers:
 //   [count == 0] = max(0, 1 - count)
 //   [count >= k] = max(0, count - k + 1) - max(0, count - k)
 #![tactic(auto)]
 
-ghost use Rattle.std.specs.Prelude.{◌≡◌, List, ℕ, Float};
-ghost use Rattle.builder_table.specs.Work.{Whole, mem, ended};
+ghost use Rattle.std.specs.Prelude.{◌≡◌};
+ghost use Rattle.builder_table.specs.Loans.{memory, standing, Makes};
 ghost use Rattle.builder_table.specs.Steps.{one_minus_in, plus_in};
 ghost use Rattle.builder.specs.Bits.{bit_form, is_true_form, is_false_form, minus_in, relu_in, is_zero_in, step_within, at_least_in, and_in, either_in, or_in};
 
-use builder_table::{Builder, Made};
+use builder_table::Builder;
 use wire::Form;
 
 // A form that holds exactly 0 or 1.
@@ -20,22 +20,12 @@ pub struct Bit(pub Form);
 #[derive(Clone, Copy)]
 pub struct Count(pub Form);
 
-// A bit, and where building stands once it is made.
-#[derive(Clone, Copy)]
-pub struct Decided {
-    pub bit: Bit,
-    pub builder: Builder,
-}
-
 impl Bit {
     // The constant bit.
     pub fn constant(set: bool) -> Self
         ensures { result.0 ≡ bit_form set }
     {
-        if set {
-            return Self(Form::constant(1.0));
-        }
-        Self(Form::constant(0.0))
+        Self(Form::constant(if set { 1.0 } else { 0.0 }))
     }
 
     // Whether it is decided, and set.
@@ -56,250 +46,111 @@ impl Bit {
 }
 
 // `1 - bit`. No op.
-pub fn not(wires: &mut [u32], coefs: &mut [f32], builder: Builder, bit: Bit) -> Decided
-    ensures { (nums : List ℕ) (biases : List Float) → ended wires.new coefs.new nums biases result.builder result.bit.0
-        ≡ one_minus_in (mem wires.old coefs.old nums biases) builder bit.0 }
+pub fn not(b: &mut Builder, bit: Bit) -> Bit
+    ensures { Makes b.old b.new result.0 (one_minus_in (memory b.old) (standing b.old) bit.0) }
 {
-    let f = bit.0;
-    let r = builder_table::one_minus(wires, coefs, builder, f);
-    let form = r.form;
-    let next = r.builder;
-    Decided {
-        bit: Bit(form),
-        builder: next,
-    }
+    Bit(b.one_minus(bit.0))
 }
 
 // The sum of two bits that cannot both be 1. No op.
-pub fn or_disjoint(
-    wires: &mut [u32],
-    coefs: &mut [f32],
-    builder: Builder,
-    left: Bit,
-    right: Bit,
-) -> Decided
-    ensures { (nums : List ℕ) (biases : List Float) → ended wires.new coefs.new nums biases result.builder result.bit.0
-        ≡ plus_in (mem wires.old coefs.old nums biases) builder left.0 right.0 }
+pub fn or_disjoint(b: &mut Builder, left: Bit, right: Bit) -> Bit
+    ensures { Makes b.old b.new result.0 (plus_in (memory b.old) (standing b.old) left.0 right.0) }
 {
-    let f = left.0;
-    let g = right.0;
-    let r = builder_table::plus(wires, coefs, builder, f, g);
-    let form = r.form;
-    let next = r.builder;
-    Decided {
-        bit: Bit(form),
-        builder: next,
-    }
-}
-
-fn minus(wires: &mut [u32], coefs: &mut [f32], builder: Builder, f: Form, g: Form) -> Made
-    ensures { (nums : List ℕ) (biases : List Float) → ended wires.new coefs.new nums biases result.builder result.form
-        ≡ minus_in (mem wires.old coefs.old nums biases) builder f g }
-{
-    let n = builder_table::scaled(wires, coefs, builder, g, -1.0);
-    let less = n.form;
-    let next = n.builder;
-    builder_table::plus(wires, coefs, next, f, less)
-}
-
-// `max(0, form)`. One op.
-fn relu(
-    wires: &mut [u32],
-    coefs: &mut [f32],
-    nums: &mut [usize],
-    biases: &mut [f32],
-    builder: Builder,
-    form: Form,
-) -> Made
-    requires { Whole nums.old biases.old }
-    ensures { ended wires.new coefs.new nums.new biases.new result.builder result.form
-        ≡ relu_in (mem wires.old coefs.old nums.old biases.old) builder form }
-{
-    let one = Form::constant(1.0);
-    builder_table::push(wires, coefs, nums, biases, builder, one, form)
+    Bit(b.plus(left.0, right.0))
 }
 
 // `[count == 0]`. One op, or none if the count is constant.
-pub fn is_zero(
-    wires: &mut [u32],
-    coefs: &mut [f32],
-    nums: &mut [usize],
-    biases: &mut [f32],
-    builder: Builder,
-    count: Count,
-) -> Decided
-    requires { Whole nums.old biases.old }
-    ensures { ended wires.new coefs.new nums.new biases.new result.builder result.bit.0
-        ≡ is_zero_in (mem wires.old coefs.old nums.old biases.old) builder count.0 }
+#[tactic(auto, unfolding(crate::specs::Bits::is_zero_in))]
+pub fn is_zero(b: &mut Builder, count: Count) -> Bit
+    ensures { Makes b.old b.new result.0 (is_zero_in (memory b.old) (standing b.old) count.0) }
 {
     let f = count.0;
-    let len = f.len;
-    let bias = f.bias;
-    if len == 0 {
-        let bit = Bit::constant(bias == 0.0);
-        return Decided { bit, builder };
+    if f.len == 0 {
+        return Bit::constant(f.bias == 0.0);
     }
-    let n = builder_table::one_minus(wires, coefs, builder, f);
-    let less = n.form;
-    let next = n.builder;
-    let r = relu(wires, coefs, nums, biases, next, less);
-    let form = r.form;
-    let last = r.builder;
-    Decided {
-        bit: Bit(form),
-        builder: last,
-    }
-}
-
-// max(0, shifted) - max(0, shifted - 1). Two ops.
-fn step(
-    wires: &mut [u32],
-    coefs: &mut [f32],
-    nums: &mut [usize],
-    biases: &mut [f32],
-    builder: Builder,
-    shifted: Form,
-) -> Made
-    requires { Whole nums.old biases.old }
-    ensures { ended wires.new coefs.new nums.new biases.new result.builder result.form
-        ≡ step_within (mem wires.old coefs.old nums.old biases.old) builder shifted }
-{
-    let high = relu(wires, coefs, nums, biases, builder, shifted);
-    let h = high.form;
-    let u = high.builder;
-    let less = arena::offset(shifted, -1.0);
-    let low = relu(wires, coefs, nums, biases, u, less);
-    let l = low.form;
-    let v = low.builder;
-    minus(wires, coefs, v, h, l)
+    let less = b.one_minus(f);
+    Bit(relu(b, less))
 }
 
 // `[count >= threshold]`. Two ops, or none if the count is constant.
-pub fn at_least(
-    wires: &mut [u32],
-    coefs: &mut [f32],
-    nums: &mut [usize],
-    biases: &mut [f32],
-    builder: Builder,
-    count: Count,
-    threshold: f32,
-) -> Decided
-    requires { Whole nums.old biases.old }
-    ensures { ended wires.new coefs.new nums.new biases.new result.builder result.bit.0
-        ≡ at_least_in (mem wires.old coefs.old nums.old biases.old) builder count.0 threshold }
+#[tactic(auto, unfolding(crate::specs::Bits::at_least_in))]
+pub fn at_least(b: &mut Builder, count: Count, threshold: f32) -> Bit
+    ensures { Makes b.old b.new result.0 (at_least_in (memory b.old) (standing b.old) count.0 threshold) }
 {
     let f = count.0;
-    let len = f.len;
-    let bias = f.bias;
-    if len == 0 {
-        let bit = Bit::constant(threshold <= bias);
-        return Decided { bit, builder };
+    if f.len == 0 {
+        return Bit::constant(threshold <= f.bias);
     }
     let shifted = arena::offset(f, 1.0 - threshold);
-    let r = step(wires, coefs, nums, biases, builder, shifted);
-    let form = r.form;
-    let next = r.builder;
-    Decided {
-        bit: Bit(form),
-        builder: next,
-    }
+    Bit(step(b, shifted))
 }
 
 // `left AND right`. One op, or none where either is constant.
-pub fn and(
-    wires: &mut [u32],
-    coefs: &mut [f32],
-    nums: &mut [usize],
-    biases: &mut [f32],
-    builder: Builder,
-    left: Bit,
-    right: Bit,
-) -> Decided
-    requires { Whole nums.old biases.old }
-    ensures { ended wires.new coefs.new nums.new biases.new result.builder result.bit.0
-        ≡ and_in (mem wires.old coefs.old nums.old biases.old) builder left.0 right.0 }
+#[tactic(auto, unfolding(crate::specs::Bits::and_in))]
+pub fn and(b: &mut Builder, left: Bit, right: Bit) -> Bit
+    ensures { Makes b.old b.new result.0 (and_in (memory b.old) (standing b.old) left.0 right.0) }
 {
     if left.is_true() {
-        return Decided {
-            bit: right,
-            builder,
-        };
+        return right;
     }
     if right.is_true() {
-        return Decided { bit: left, builder };
+        return left;
     }
     if left.is_false() | right.is_false() {
-        let bit = Bit::constant(false);
-        return Decided { bit, builder };
+        return Bit::constant(false);
     }
-    let f = left.0;
-    let g = right.0;
-    let r = builder_table::push(wires, coefs, nums, biases, builder, f, g);
-    let form = r.form;
-    let next = r.builder;
-    Decided {
-        bit: Bit(form),
-        builder: next,
-    }
-}
-
-// a + b - a × b. One op.
-fn either(
-    wires: &mut [u32],
-    coefs: &mut [f32],
-    nums: &mut [usize],
-    biases: &mut [f32],
-    builder: Builder,
-    f: Form,
-    g: Form,
-) -> Made
-    requires { Whole nums.old biases.old }
-    ensures { ended wires.new coefs.new nums.new biases.new result.builder result.form
-        ≡ either_in (mem wires.old coefs.old nums.old biases.old) builder f g }
-{
-    let both = builder_table::push(wires, coefs, nums, biases, builder, f, g);
-    let product = both.form;
-    let u = both.builder;
-    let sum = builder_table::plus(wires, coefs, u, f, g);
-    let s = sum.form;
-    let v = sum.builder;
-    minus(wires, coefs, v, s, product)
+    Bit(b.push(left.0, right.0))
 }
 
 // `left OR right`. One op, or none where either is constant.
-pub fn or(
-    wires: &mut [u32],
-    coefs: &mut [f32],
-    nums: &mut [usize],
-    biases: &mut [f32],
-    builder: Builder,
-    left: Bit,
-    right: Bit,
-) -> Decided
-    requires { Whole nums.old biases.old }
-    ensures { ended wires.new coefs.new nums.new biases.new result.builder result.bit.0
-        ≡ or_in (mem wires.old coefs.old nums.old biases.old) builder left.0 right.0 }
+#[tactic(auto, unfolding(crate::specs::Bits::or_in))]
+pub fn or(b: &mut Builder, left: Bit, right: Bit) -> Bit
+    ensures { Makes b.old b.new result.0 (or_in (memory b.old) (standing b.old) left.0 right.0) }
 {
     if left.is_true() | right.is_true() {
-        let bit = Bit::constant(true);
-        return Decided { bit, builder };
+        return Bit::constant(true);
     }
     if left.is_false() {
-        return Decided {
-            bit: right,
-            builder,
-        };
+        return right;
     }
     if right.is_false() {
-        return Decided { bit: left, builder };
+        return left;
     }
-    let f = left.0;
-    let g = right.0;
-    let r = either(wires, coefs, nums, biases, builder, f, g);
-    let form = r.form;
-    let next = r.builder;
-    Decided {
-        bit: Bit(form),
-        builder: next,
-    }
+    Bit(either(b, left.0, right.0))
+}
+
+// a + b - a × b. One op.
+#[tactic(auto, unfolding(crate::specs::Bits::either_in))]
+fn either(b: &mut Builder, f: Form, g: Form) -> Form
+    ensures { Makes b.old b.new result (either_in (memory b.old) (standing b.old) f g) }
+{
+    let product = b.push(f, g);
+    let sum = b.plus(f, g);
+    minus(b, sum, product)
+}
+
+// max(0, shifted) - max(0, shifted - 1). Two ops.
+#[tactic(auto, unfolding(crate::specs::Bits::step_within))]
+fn step(b: &mut Builder, shifted: Form) -> Form
+    ensures { Makes b.old b.new result (step_within (memory b.old) (standing b.old) shifted) }
+{
+    let high = relu(b, shifted);
+    let low = relu(b, arena::offset(shifted, -1.0));
+    minus(b, high, low)
+}
+
+#[tactic(auto, unfolding(crate::specs::Bits::minus_in))]
+fn minus(b: &mut Builder, f: Form, g: Form) -> Form
+    ensures { Makes b.old b.new result (minus_in (memory b.old) (standing b.old) f g) }
+{
+    let less = b.scaled(g, -1.0);
+    b.plus(f, less)
+}
+
+// `max(0, form)`. One op.
+#[tactic(auto, unfolding(crate::specs::Bits::relu_in))]
+fn relu(b: &mut Builder, form: Form) -> Form
+    ensures { Makes b.old b.new result (relu_in (memory b.old) (standing b.old) form) }
+{
+    b.push(Form::constant(1.0), form)
 }

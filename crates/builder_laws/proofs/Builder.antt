@@ -24,8 +24,8 @@ use Rattle.construct.specs.Builder as B
 use Rattle.construct.specs.Builder.{Op, Out}
 use Rattle.construct_floats.specs.Floats.{number, empty, known_at, known, floats}
 use Rattle.construct_floats.proofs.Literals.{number_zero, number_one, difference_one, difference_minus_one}
-use Rattle.builder_table.specs.declared.Builder.{Builder}
-use Rattle.builder_table.specs.Work.{Mem, Ended, Whole, kept}
+use Rattle.builder_table.specs.Work.{Standing, Mem, Ended, kept}
+use Rattle.builder_table.specs.Whole.{Whole}
 use Rattle.builder_table.specs.Steps.{one_minus_in, push_in}
 use Rattle.builder_laws.specs.Table.{Ops, Stands, Gives, Grown}
 use Rattle.builder_laws.proofs.Table.{grown_none, grown_then, stands_still, whole_still, gives_kept, plus_grown, plus_gives, scaled_grown, scaled_gives, one_minus_grown, one_minus_gives, push_grown, push_gives}
@@ -48,7 +48,7 @@ not_same : (x : Affine) → S.one_minus x ≡ B.not' floats x
 unfolding S.one_minus B.not'
 not_same x = ap (λ (d : Float). S.offset d (S.scaled minus_one32 x)) (sym difference_one)
 
-pub not_gives : (m : Mem) (b : Builder) (f : Form) {x : Affine} {os : List (Op Affine)} → Ops m b os → Stands m b f x → Gives (one_minus_in m b f) (record { form = B.not' floats x; ops = os })
+pub not_gives : (m : Mem) (b : Standing) (f : Form) {x : Affine} {os : List (Op Affine)} → Ops m b os → Stands m b f x → Gives (one_minus_in m b f) (record { form = B.not' floats x; ops = os })
 not_gives m b f {x} q h = rw (← not_same x) (one_minus_gives m b f q h)
 
 empty_is : (ts : List Term) (n : ℕ) → n ≡ length ts → eqb n 0 ≡ empty ts
@@ -71,7 +71,7 @@ gives_if g = record { form = record { holds = λ t. (g t).form.holds t }; ops = 
 
 -- ---- the operations
 
-module _ (m : Mem) (b : Builder) where
+module _ (m : Mem) (b : Standing) where
   module _ (f g : Form) where
     pub minus_grown : Grown m b (minus_in m b f g).mem (minus_in m b f g).builder
     unfolding minus_in
@@ -92,7 +92,7 @@ module _ (m : Mem) (b : Builder) where
     unfolding relu_in B.relu
     relu_gives w q h = push_gives m b (constant_form one32) f w q stands_one h
 
-module _ (m : Mem) (b : Builder) (f : Form) where
+module _ (m : Mem) (b : Standing) (f : Form) where
   -- `is_zero` of a count that has terms
   abbrev open_zero : Ended
   open_zero = let n = one_minus_in m b f in relu_in n.mem n.builder n.form
@@ -136,7 +136,7 @@ module _ (m : Mem) (b : Builder) (f : Form) where
       let low = rw r.cells at (relu_gives u.mem u.builder (offset_form minus_one32 f) (whole_still r w) high.ops (holds_offset minus_one32 (stands_still r h))) in
       minus_gives _ _ _ _ low.ops (stands_still s high.form) low.form
 
-module _ (m : Mem) (b : Builder) (f : Form) (threshold : Float) where
+module _ (m : Mem) (b : Standing) (f : Form) (threshold : Float) where
   pub least_grown : Grown m b (at_least_in m b f threshold).mem (at_least_in m b f threshold).builder
   unfolding at_least_in
   least_grown = go (eqb f.len 0)
@@ -145,7 +145,7 @@ module _ (m : Mem) (b : Builder) (f : Form) (threshold : Float) where
       go true = grown_none
       go false = step_grown m b _
 
-module _ (m : Mem) (b : Builder) (f : Form) (k : ℕ) where
+module _ (m : Mem) (b : Standing) (f : Form) (k : ℕ) where
   pub least_gives : {x : Affine} {os : List (Op Affine)} → Whole m.nums m.biases → Ops m b os → Stands m b f x → Gives (at_least_in m b f (number k)) (B.at_least floats b.cells x k os)
   unfolding at_least_in B.at_least B.at_least_at B.step known_at
   least_gives {x} {os} w q h =
@@ -156,7 +156,7 @@ module _ (m : Mem) (b : Builder) (f : Form) (k : ℕ) where
       go true false l e = rw (← e) (gives_kept (stands_bit l) q)
       go false z l e = rw (difference_minus_one, number_one) (step_gives m b _ w q (holds_offset (sub binary32 one32 (number k)) h))
 
-module _ (m : Mem) (b : Builder) (f g : Form) where
+module _ (m : Mem) (b : Standing) (f g : Form) where
   abbrev and_of : Bool → Bool → Bool → Bool → Ended
   and_of p z p' z' =
       cond (p && not z) (kept m b g) (cond (p' && not z') (kept m b f) (cond ((p && z) || (p' && z')) (kept m b (constant_form zero32)) (push_in m b f g)))

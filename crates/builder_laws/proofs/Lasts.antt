@@ -18,8 +18,8 @@ use Rattle.arena_laws.proofs.Lengths.{merged_length, scaled_length}
 use Rattle.construct.specs.Builder as B
 use Rattle.construct.specs.Builder.{Op}
 use Rattle.construct_floats.specs.Floats.{floats}
-use Rattle.builder_table.specs.declared.Builder.{Builder}
-use Rattle.builder_table.specs.Work.{Mem, Whole, kept}
+use Rattle.builder_table.specs.Work.{Standing, Mem, kept}
+use Rattle.builder_table.specs.Whole.{Whole}
 use Rattle.builder_table.specs.Steps.{one_minus_in, push_in}
 use Rattle.builder_laws.specs.Table.{Ops, Stands, Lasts}
 use Rattle.builder_laws.proofs.Table.{stands_still, whole_still, lasts_kept, lasts_then, lasts_wide, plus_grown, plus_gives, plus_lasts, scaled_grown, scaled_gives, scaled_lasts, one_minus_grown, one_minus_lasts, push_grown, push_gives, push_lasts}
@@ -51,7 +51,7 @@ push_size n x y os = refl
 
 -- ---- the operations
 
-module _ (m : Mem) (b : Builder) (f g : Form) {x y : Affine} {os : List (Op Affine)} (q : Ops m b os) (hx : Stands m b f x) (hy : Stands m b g y) where
+module _ (m : Mem) (b : Standing) (f g : Form) {x y : Affine} {os : List (Op Affine)} (q : Ops m b os) (hx : Stands m b f x) (hy : Stands m b g y) where
   pub minus_lasts : Lasts m b (minus_in m b f g).builder (size x + 2 * size y) 0
   unfolding minus_in
   minus_lasts =
@@ -60,7 +60,7 @@ module _ (m : Mem) (b : Builder) (f g : Form) {x y : Affine} {os : List (Op Affi
       lasts_wide (size x + 2 * size y) 0 (omega (arith, scaled_size minus_one32 y)) (omega arith)
       (lasts_then r (scaled_lasts m b g minus_one32 hy) (plus_lasts _ _ f _ (stands_still r hx) n.form))
 
-module _ (m : Mem) (b : Builder) (f g : Form) where
+module _ (m : Mem) (b : Standing) (f g : Form) where
   pub and_lasts : Lasts m b (and_in m b f g).builder 1 1
   unfolding and_in
   and_lasts = go (is_true_form f) (is_true_form g) (is_false_form f || is_false_form g)
@@ -71,7 +71,7 @@ module _ (m : Mem) (b : Builder) (f g : Form) where
       go false false true = lasts_kept 1 1
       go false false false = push_lasts m b f g
 
-module _ (m : Mem) (b : Builder) (f g : Form) {x y : Affine} {os : List (Op Affine)} (w : Whole m.nums m.biases) (q : Ops m b os) (hx : Stands m b f x) (hy : Stands m b g y) where
+module _ (m : Mem) (b : Standing) (f g : Form) {x y : Affine} {os : List (Op Affine)} (w : Whole m.nums m.biases) (q : Ops m b os) (hx : Stands m b f x) (hy : Stands m b g y) where
   pub either_lasts : Lasts m b (either_in m b f g).builder (2 * (size x + size y) + 3) 1
   unfolding either_in
   either_lasts =
@@ -95,12 +95,12 @@ module _ (m : Mem) (b : Builder) (f g : Form) {x y : Affine} {os : List (Op Affi
       go false false true = lasts_kept _ 1
       go false false false = either_lasts
 
-module _ (m : Mem) (b : Builder) (f : Form) where
+module _ (m : Mem) (b : Standing) (f : Form) where
   pub relu_lasts : Lasts m b (relu_in m b f).builder 1 1
   unfolding relu_in
   relu_lasts = push_lasts m b (constant_form one32) f
 
-module _ (m : Mem) (b : Builder) (f : Form) {x : Affine} (h : Stands m b f x) where
+module _ (m : Mem) (b : Standing) (f : Form) {x : Affine} (h : Stands m b f x) where
   pub zero_lasts : Lasts m b (is_zero_in m b f).builder (size x + 1) 1
   unfolding is_zero_in
   zero_lasts = go (eqb f.len 0)
@@ -109,7 +109,7 @@ module _ (m : Mem) (b : Builder) (f : Form) {x : Affine} (h : Stands m b f x) wh
       go true = lasts_kept _ 1
       go false = lasts_then (one_minus_grown m b f) (one_minus_lasts m b f h) (relu_lasts _ _ _)
 
-module _ (m : Mem) (b : Builder) (f : Form) {x : Affine} {os : List (Op Affine)} (w : Whole m.nums m.biases) (q : Ops m b os) (h : Stands m b f x) where
+module _ (m : Mem) (b : Standing) (f : Form) {x : Affine} {os : List (Op Affine)} (w : Whole m.nums m.biases) (q : Ops m b os) (h : Stands m b f x) where
   pub step_lasts : Lasts m b (step_within m b f).builder 5 2
   unfolding step_within B.relu
   step_lasts =
@@ -124,7 +124,7 @@ module _ (m : Mem) (b : Builder) (f : Form) {x : Affine} {os : List (Op Affine)}
       relu_size : (n : ℕ) (x : Affine) (os : List (Op Affine)) → size (B.relu floats n x os).form ≡ 1
       relu_size n x os = push_size n _ x os
 
-module _ (m : Mem) (b : Builder) (f : Form) (threshold : Float) {x : Affine} {os : List (Op Affine)} (w : Whole m.nums m.biases) (q : Ops m b os) (h : Stands m b f x) where
+module _ (m : Mem) (b : Standing) (f : Form) (threshold : Float) {x : Affine} {os : List (Op Affine)} (w : Whole m.nums m.biases) (q : Ops m b os) (h : Stands m b f x) where
   pub least_lasts : Lasts m b (at_least_in m b f threshold).builder 5 2
   unfolding at_least_in
   least_lasts = go (eqb f.len 0)

@@ -7,9 +7,8 @@ use lib.ListN.{length}
 use Rattle.wire.specs.Terms.{Affine}
 use Rattle.arena_laws.specs.Holds.{Grows}
 use Rattle.construct.specs.Builder.{Op}
-use Rattle.builder_table.specs.declared.Builder.{Builder}
+use Rattle.builder_table.specs.Work.{Standing, Mem, loaded}
 use Rattle.builder_table.specs.Slots.{ops_from}
-use Rattle.builder_table.specs.Work.{Mem, loaded}
 use Rattle.builder_laws.specs.Table.{Ops, Stands, Lasts}
 
 -- k is none of the slots from lo up to hi
@@ -17,7 +16,7 @@ abbrev pub Not : ℕ → ℕ → ℕ → Type 0
 Not lo hi k = lo ≤ k → k < hi → ⊥
 
 -- the arena grows, lengths stay, and so do the slots below the ops that K holds of
-pub record Keeps (K : ℕ → Type 0) (m : Mem) (b : Builder) (m' : Mem) (b' : Builder) : Type 0 where
+pub record Keeps (K : ℕ → Type 0) (m : Mem) (b : Standing) (m' : Mem) (b' : Standing) : Type 0 where
   pub arena : Grows m.wires m.coefs b.room m'.wires m'.coefs b'.room
   pub nums : length m'.nums ≡ length m.nums
   pub biases : length m'.biases ≡ length m.biases
@@ -25,22 +24,22 @@ pub record Keeps (K : ℕ → Type 0) (m : Mem) (b : Builder) (m' : Mem) (b' : B
   pub cells : b'.cells ≡ b.cells
 
 -- from m and b to m' and b', where the ops made are os; room for `need` more terms and `more` ops is enough
-pub record Runs (K : ℕ → Type 0) (m : Mem) (b : Builder) (m' : Mem) (b' : Builder) (os : List (Op Affine)) (need more : ℕ) : Type 0 where
+pub record Runs (K : ℕ → Type 0) (m : Mem) (b : Standing) (m' : Mem) (b' : Standing) (os : List (Op Affine)) (need more : ℕ) : Type 0 where
   pub keeps : Keeps K m b m' b'
   pub ops : Ops m' b' os
   pub lasts : Lasts m b b' need more
 
 -- the slots from `from` on stand for xs
-abbrev pub Rows : Mem → Builder → ℕ → List Affine → Type 0
+abbrev pub Rows : Mem → Standing → ℕ → List Affine → Type 0
 Rows m b from [] = Unit {0}
 Rows m b from (x ∷ xs) = Stands m b (loaded m from) x × Rows m b (suc from) xs
 
 -- the slots from `top` down stand for xs
-abbrev pub Falls : Mem → Builder → ℕ → List Affine → Type 0
+abbrev pub Falls : Mem → Standing → ℕ → List Affine → Type 0
 Falls m b top [] = Unit {0}
 Falls m b top (x ∷ xs) = Stands m b (loaded m top) x × Falls m b (top - 1) xs
 
 -- a stack whose bottom is slot `base` stands for xs, the head on top
-abbrev pub StackAt : Mem → Builder → ℕ → List Affine → Type 0
+abbrev pub StackAt : Mem → Standing → ℕ → List Affine → Type 0
 StackAt m b base [] = Unit {0}
 StackAt m b base (x ∷ xs) = Stands m b (loaded m (base + length xs)) x × StackAt m b base xs

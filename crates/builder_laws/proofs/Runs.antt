@@ -8,19 +8,19 @@ use Rattle.wire.specs.declared.Form.{Form}
 use Rattle.wire.specs.Terms.{Affine}
 use Rattle.arena_laws.proofs.Holds.{grows_none, grows_then, holds_stays}
 use Rattle.construct.specs.Builder.{Op}
-use Rattle.builder_table.specs.declared.Builder.{Builder}
+use Rattle.builder_table.specs.Work.{Standing, Mem, loaded, saved}
 use Rattle.builder_table.specs.Slots.{ops_from}
-use Rattle.builder_table.specs.Work.{Mem, Whole, loaded, saved}
+use Rattle.builder_table.specs.Whole.{Whole}
 use Rattle.builder_laws.specs.Table.{Ops, Stands, Grown}
 use Rattle.builder_laws.proofs.Table.{saved_own, saved_other, saved_nums_lem, saved_biases_lem, ops_still, lasts_kept, lasts_on, lasts_wide}
 use Rattle.builder_laws.proofs.Running.{Keeps, Runs, Rows, Falls, StackAt}
 
 -- ---- what stays
 
-pub keeps_none : {K : ℕ → Type 0} {m : Mem} {b : Builder} → Keeps K m b m b
+pub keeps_none : {K : ℕ → Type 0} {m : Mem} {b : Standing} → Keeps K m b m b
 keeps_none = record { arena = grows_none; nums = refl; biases = refl; slots = λ k l h. refl; cells = refl }
 
-pub keeps_then : {K : ℕ → Type 0} {m : Mem} {b : Builder} {m' : Mem} {b' : Builder} {m'' : Mem} {b'' : Builder} → Keeps K m b m' b' → Keeps K m' b' m'' b'' → Keeps K m b m'' b''
+pub keeps_then : {K : ℕ → Type 0} {m : Mem} {b : Standing} {m' : Mem} {b' : Standing} {m'' : Mem} {b'' : Standing} → Keeps K m b m' b' → Keeps K m' b' m'' b'' → Keeps K m b m'' b''
 keeps_then g h =
     record {
       arena = grows_then g.arena h.arena;
@@ -31,17 +31,17 @@ keeps_then g h =
     }
 
 -- fewer slots asked for
-pub keeps_less : {K K' : ℕ → Type 0} {m : Mem} {b : Builder} {m' : Mem} {b' : Builder} → ((k : ℕ) → K' k → K k) → Keeps K m b m' b' → Keeps K' m b m' b'
+pub keeps_less : {K K' : ℕ → Type 0} {m : Mem} {b : Standing} {m' : Mem} {b' : Standing} → ((k : ℕ) → K' k → K k) → Keeps K m b m' b' → Keeps K' m b m' b'
 keeps_less s g = record { arena = g.arena; nums = g.nums; biases = g.biases; slots = λ k l q. g.slots k l (s k q); cells = g.cells }
 
-pub keeps_grown : {K : ℕ → Type 0} {m : Mem} {b : Builder} {m' : Mem} {b' : Builder} → Grown m b m' b' → Keeps K m b m' b'
+pub keeps_grown : {K : ℕ → Type 0} {m : Mem} {b : Standing} {m' : Mem} {b' : Standing} → Grown m b m' b' → Keeps K m b m' b'
 keeps_grown g = record { arena = g.arena; nums = g.nums; biases = g.biases; slots = λ k l q. g.slots k l; cells = g.cells }
 
-pub keeps_saved : {K : ℕ → Type 0} {m : Mem} {b : Builder} (j : ℕ) (f : Form) → (K j → ⊥) → Keeps K m b (saved m j f) b
+pub keeps_saved : {K : ℕ → Type 0} {m : Mem} {b : Standing} (j : ℕ) (f : Form) → (K j → ⊥) → Keeps K m b (saved m j f) b
 keeps_saved {K} {m} j f n =
     record { arena = grows_none; nums = saved_nums_lem m j f; biases = saved_biases_lem m j f; slots = λ k l q. saved_other m j f k (λ e. n (subst K e q)); cells = refl }
 
-module _ {K : ℕ → Type 0} {m : Mem} {b : Builder} {m' : Mem} {b' : Builder} (g : Keeps K m b m' b') where
+module _ {K : ℕ → Type 0} {m : Mem} {b : Standing} {m' : Mem} {b' : Standing} (g : Keeps K m b m' b') where
   pub whole_kept : Whole m.nums m.biases → Whole m'.nums m'.biases
   whole_kept w = (omega (arith, g.nums, w.0), omega (arith, g.biases, w.1))
 
@@ -75,7 +75,7 @@ module _ {K : ℕ → Type 0} {m : Mem} {b : Builder} {m' : Mem} {b' : Builder} 
 
 -- ---- a slot that was saved
 
-module _ (m : Mem) (b : Builder) (j : ℕ) (f : Form) where
+module _ (m : Mem) (b : Standing) (j : ℕ) (f : Form) where
   pub ops_saved : {os : List (Op Affine)} → j < ops_from → Ops m b os → Ops (saved m j f) b os
   ops_saved {os} l q =
       record {
@@ -90,19 +90,19 @@ module _ (m : Mem) (b : Builder) (j : ℕ) (f : Form) where
 -- ---- one after the other
 
 -- where work begins: the table is whole, there are n cells, and the ops made so far are os
-pub record Ready (n : ℕ) (m : Mem) (b : Builder) (os : List (Op Affine)) : Type 0 where
+pub record Ready (n : ℕ) (m : Mem) (b : Standing) (os : List (Op Affine)) : Type 0 where
   pub whole : Whole m.nums m.biases
   pub cells : b.cells ≡ n
   pub ops : Ops m b os
 
-pub runs_none : {n : ℕ} {K : ℕ → Type 0} {m : Mem} {b : Builder} {os : List (Op Affine)} → Ready n m b os → Runs K m b m b os 0 0
+pub runs_none : {n : ℕ} {K : ℕ → Type 0} {m : Mem} {b : Standing} {os : List (Op Affine)} → Ready n m b os → Runs K m b m b os 0 0
 runs_none r = record { keeps = keeps_none; ops = r.ops; lasts = lasts_kept 0 0 }
 
-pub runs_then : {K : ℕ → Type 0} {m : Mem} {b : Builder} {m' : Mem} {b' : Builder} {m'' : Mem} {b'' : Builder} {os os' : List (Op Affine)} {n k n' k' : ℕ}
+pub runs_then : {K : ℕ → Type 0} {m : Mem} {b : Standing} {m' : Mem} {b' : Standing} {m'' : Mem} {b'' : Standing} {os os' : List (Op Affine)} {n k n' k' : ℕ}
     → Runs K m b m' b' os n k → Runs K m' b' m'' b'' os' n' k' → Runs K m b m'' b'' os' (n + n') (k + k')
 runs_then r s = record { keeps = keeps_then r.keeps s.keeps; ops = s.ops; lasts = lasts_on r.keeps.arena r.keeps.cells r.lasts s.lasts }
 
-module _ {K : ℕ → Type 0} {m : Mem} {b : Builder} {m' : Mem} {b' : Builder} {os : List (Op Affine)} {need more : ℕ} (r : Runs K m b m' b' os need more) where
+module _ {K : ℕ → Type 0} {m : Mem} {b : Standing} {m' : Mem} {b' : Standing} {os : List (Op Affine)} {need more : ℕ} (r : Runs K m b m' b' os need more) where
   pub runs_less : {K' : ℕ → Type 0} → ((k : ℕ) → K' k → K k) → Runs K' m b m' b' os need more
   runs_less s = record { keeps = keeps_less s r.keeps; ops = r.ops; lasts = r.lasts }
 
@@ -117,10 +117,10 @@ module _ {K : ℕ → Type 0} {m : Mem} {b : Builder} {m' : Mem} {b' : Builder} 
   stands_after h = stands_kept r.keeps h
 
 -- saving a slot that need not stay
-pub saved_runs : {n : ℕ} {K : ℕ → Type 0} {m : Mem} {b : Builder} {os : List (Op Affine)} → Ready n m b os → (j : ℕ) (f : Form) → j < ops_from → (K j → ⊥) → Runs K m b (saved m j f) b os 0 0
+pub saved_runs : {n : ℕ} {K : ℕ → Type 0} {m : Mem} {b : Standing} {os : List (Op Affine)} → Ready n m b os → (j : ℕ) (f : Form) → j < ops_from → (K j → ⊥) → Runs K m b (saved m j f) b os 0 0
 saved_runs {m = m} {b = b} r j f l n = record { keeps = keeps_saved j f n; ops = ops_saved m b j f l r.ops; lasts = lasts_kept 0 0 }
 
 -- the slot then stands for what the form does
-pub slot_filled : {n : ℕ} {m : Mem} {b : Builder} {os : List (Op Affine)} {f : Form} {x : Affine} → Ready n m b os → (j : ℕ) → j < ops_from → Stands m b f x
+pub slot_filled : {n : ℕ} {m : Mem} {b : Standing} {os : List (Op Affine)} {f : Form} {x : Affine} → Ready n m b os → (j : ℕ) → j < ops_from → Stands m b f x
     → Stands (saved m j f) b (loaded (saved m j f) j) x
 slot_filled {m = m} {b = b} {f = f} r j l h = slot_saved m b j f r.whole l h

@@ -9,8 +9,7 @@ use Rattle.arena_terms.specs.Sums as S
 use Rattle.construct.specs.Builder as B
 use Rattle.construct.specs.Builder.{Op, Out}
 use Rattle.construct_floats.specs.Floats.{number, floats}
-use Rattle.builder_table.specs.declared.Builder.{Builder}
-use Rattle.builder_table.specs.Work.{Mem, Ended}
+use Rattle.builder_table.specs.Work.{Standing, Mem, Ended}
 use Rattle.builder_table.specs.Steps.{wire_in, plus_in, scaled_in, one_minus_in, push_in}
 use Rattle.builder_laws.specs.Table.{Stands, Gives, Grown, Lasts}
 use Rattle.builder_laws.proofs.Table as T
@@ -21,7 +20,7 @@ use Rattle.builder_laws.proofs.Running.{Runs}
 use Rattle.builder_laws.proofs.Runs.{keeps_grown, Ready}
 
 -- the ops are o's, and so is the form
-pub record Made (K : ℕ → Type 0) (m : Mem) (b : Builder) (e : Ended) (o : Out Affine) (need more : ℕ) : Type 0 where
+pub record Made (K : ℕ → Type 0) (m : Mem) (b : Standing) (e : Ended) (o : Out Affine) (need more : ℕ) : Type 0 where
   pub runs : Runs K m b e.mem e.builder o.ops need more
   pub form : Stands e.mem e.builder e.form o.form
 
@@ -29,11 +28,11 @@ pub record Made (K : ℕ → Type 0) (m : Mem) (b : Builder) (e : Ended) (o : Ou
 abbrev pub only : Affine → List (Op Affine) → Out Affine
 only x os = record { form = x; ops = os }
 
-made : {K : ℕ → Type 0} {m : Mem} {b : Builder} {e : Ended} {o : Out Affine} {need more : ℕ}
+made : {K : ℕ → Type 0} {m : Mem} {b : Standing} {e : Ended} {o : Out Affine} {need more : ℕ}
     → Grown m b e.mem e.builder → Gives e o → Lasts m b e.builder need more → Made K m b e o need more
 made g h l = record { runs = record { keeps = keeps_grown g; ops = h.ops; lasts = l }; form = h.form }
 
-module _ {n : ℕ} {K : ℕ → Type 0} {m : Mem} {b : Builder} {os : List (Op Affine)} (r : Ready n m b os) where
+module _ {n : ℕ} {K : ℕ → Type 0} {m : Mem} {b : Standing} {os : List (Op Affine)} (r : Ready n m b os) where
   pub wire_runs : (w : ℕ) → Made K m b (wire_in m b w) (only (S.single w) os) 1 0
   wire_runs w = made (T.wire_grown m b w) (T.wire_gives m b w r.ops) (T.wire_lasts m b w)
 

@@ -20,35 +20,35 @@ use Rattle.arena_laws.specs.Holds.{Is, Holds, Grows, Lives}
 use Rattle.arena_laws.proofs.Holds.{grows_none, grows_then, holds_stays, single_grows, single_holds, single_lives, scaled_grows, scaled_holds, scaled_lives, one_minus_grows, one_minus_holds, one_minus_lives, plus_grows, plus_holds, plus_lives}
 use Rattle.construct.specs.Builder.{Op, push}
 use Rattle.construct_floats.specs.Floats.{floats}
-use Rattle.builder_table.specs.declared.Builder.{Builder}
+use Rattle.builder_table.specs.Work.{Standing, Mem, Ended, loaded, saved, kept}
 use Rattle.builder_table.specs.Slots.{ops_from}
-use Rattle.builder_table.specs.Work.{Mem, Ended, Whole, loaded, saved, kept, ops_most, slots_most}
+use Rattle.builder_table.specs.Whole.{Whole, ops_most, slots_most}
 use Rattle.builder_table.specs.Steps.{in_arena, wire_in, plus_in, scaled_in, one_minus_in, full_builder, full_in, push_in}
 use Rattle.builder_laws.specs.Table.{OpsAt, Ops, Stands, Gives, Grown, Lasts}
 
 -- ---- followed one after the other
 
-pub grown_none : {m : Mem} {b : Builder} → Grown m b m b
+pub grown_none : {m : Mem} {b : Standing} → Grown m b m b
 grown_none = record { arena = grows_none; nums = refl; biases = refl; slots = λ k l. refl; cells = refl }
 
-pub grown_then : {m : Mem} {b : Builder} {m' : Mem} {b' : Builder} {m'' : Mem} {b'' : Builder} → Grown m b m' b' → Grown m' b' m'' b'' → Grown m b m'' b''
+pub grown_then : {m : Mem} {b : Standing} {m' : Mem} {b' : Standing} {m'' : Mem} {b'' : Standing} → Grown m b m' b' → Grown m' b' m'' b'' → Grown m b m'' b''
 grown_then g h =
     record { arena = grows_then g.arena h.arena; nums = h.nums ∙ g.nums; biases = h.biases ∙ g.biases; slots = λ k l. h.slots k l ∙ g.slots k l; cells = h.cells ∙ g.cells }
 
-pub stands_still : {m : Mem} {b : Builder} {m' : Mem} {b' : Builder} {f : Form} {x : Affine} → Grown m b m' b' → Stands m b f x → Stands m' b' f x
+pub stands_still : {m : Mem} {b : Standing} {m' : Mem} {b' : Standing} {f : Form} {x : Affine} → Grown m b m' b' → Stands m b f x → Stands m' b' f x
 stands_still g h = holds_stays g.arena h
 
-pub whole_still : {m : Mem} {b : Builder} {m' : Mem} {b' : Builder} → Grown m b m' b' → Whole m.nums m.biases → Whole m'.nums m'.biases
+pub whole_still : {m : Mem} {b : Standing} {m' : Mem} {b' : Standing} → Grown m b m' b' → Whole m.nums m.biases → Whole m'.nums m'.biases
 whole_still g w = (omega (arith, g.nums, w.0), omega (arith, g.biases, w.1))
 
 -- nothing done
-pub gives_kept : {m : Mem} {b : Builder} {f : Form} {x : Affine} {os : List (Op Affine)} → Stands m b f x → Ops m b os → Gives (kept m b f) (record { form = x; ops = os })
+pub gives_kept : {m : Mem} {b : Standing} {f : Form} {x : Affine} {os : List (Op Affine)} → Stands m b f x → Ops m b os → Gives (kept m b f) (record { form = x; ops = os })
 gives_kept h q = record { form = h; ops = q }
 
-pub lasts_kept : {m : Mem} {b : Builder} (need k : ℕ) → Lasts m b b need k
+pub lasts_kept : {m : Mem} {b : Standing} (need k : ℕ) → Lasts m b b need k
 lasts_kept need k = record { lasts = λ t c o a. (t, omega arith, omega arith) }
 
-pub lasts_on : {m : Mem} {b : Builder} {m' : Mem} {b' b'' : Builder} {n k n' k' : ℕ} → Grows m.wires m.coefs b.room m'.wires m'.coefs b'.room → b'.cells ≡ b.cells
+pub lasts_on : {m : Mem} {b : Standing} {m' : Mem} {b' b'' : Standing} {n k n' k' : ℕ} → Grows m.wires m.coefs b.room m'.wires m'.coefs b'.room → b'.cells ≡ b.cells
     → Lasts m b b' n k → Lasts m' b' b'' n' k' → Lasts m b b'' (n + n') (k + k')
 lasts_on {m} {m' = m'} g e h l = record {
   lasts = λ t c o a.
@@ -58,10 +58,10 @@ lasts_on {m} {m' = m'} g e h l = record {
       (q.0, omega (arith, p.1, q.1), omega (arith, p.2, q.2));
 }
 
-pub lasts_then : {m : Mem} {b : Builder} {m' : Mem} {b' b'' : Builder} {n k n' k' : ℕ} → Grown m b m' b' → Lasts m b b' n k → Lasts m' b' b'' n' k' → Lasts m b b'' (n + n') (k + k')
+pub lasts_then : {m : Mem} {b : Standing} {m' : Mem} {b' b'' : Standing} {n k n' k' : ℕ} → Grown m b m' b' → Lasts m b b' n k → Lasts m' b' b'' n' k' → Lasts m b b'' (n + n') (k + k')
 lasts_then g h l = lasts_on g.arena g.cells h l
 
-pub lasts_wide : {m : Mem} {b b' : Builder} {n k : ℕ} (n' k' : ℕ) → n ≤ n' → k ≤ k' → Lasts m b b' n k → Lasts m b b' n' k'
+pub lasts_wide : {m : Mem} {b b' : Standing} {n k : ℕ} (n' k' : ℕ) → n ≤ n' → k ≤ k' → Lasts m b b' n k → Lasts m b b' n' k'
 lasts_wide n' k' a c h = record { lasts = λ t d o e. let r = h.lasts t d (omega arith) (omega arith) in (r.0, omega (arith, r.1), omega (arith, r.2)) }
 
 -- ---- an operation of the arena
@@ -71,7 +71,7 @@ is_still : {ws : List ℕ} {cs : List Float} {room : Room} {ws' : List ℕ} {cs'
 is_still g q = record { below = omega (arith, g.more, q.below); terms = g.keeps _ _ q.below ∙ q.terms; bias = q.bias }
 
 -- ops whose slots stay
-pub ops_still : (m : Mem) (b : Builder) (m' : Mem) (b' : Builder) (os : List (Op Affine)) → Grows m.wires m.coefs b.room m'.wires m'.coefs b'.room
+pub ops_still : (m : Mem) (b : Standing) (m' : Mem) (b' : Standing) (os : List (Op Affine)) → Grows m.wires m.coefs b.room m'.wires m'.coefs b'.room
     → ((k : ℕ) → ops_from ≤ k → k < ops_from + 2 * length os → loaded m' k ≡ loaded m k) → OpsAt m b.room.used os → OpsAt m' b'.room.used os
 ops_still m b m' b' [] g s h = tt
 ops_still m b m' b' (o ∷ os) g s h = (
@@ -80,7 +80,7 @@ ops_still m b m' b' (o ∷ os) g s h = (
   ops_still m b m' b' os g (λ k a l. s k a (omega arith)) h.2,
 )
 
-module _ (m : Mem) (b : Builder) (o : A.Outcome) where
+module _ (m : Mem) (b : Standing) (o : A.Outcome) where
   arena_grown : Grows m.wires m.coefs b.room o.wires o.coefs o.room → Grown m b (in_arena m b o).mem (in_arena m b o).builder
   arena_grown g = record { arena = g; nums = refl; biases = refl; slots = λ k l. refl; cells = refl }
 
@@ -102,7 +102,7 @@ module _ (m : Mem) (b : Builder) (o : A.Outcome) where
 leaves : (o : A.Outcome) → A.Leaves o o.wires o.coefs (record { form = o.form; room = o.room })
 leaves o = record { wires = refl; coefs = refl; form = refl; room = refl }
 
-module _ (m : Mem) (b : Builder) where
+module _ (m : Mem) (b : Standing) where
   module _ (w : ℕ) where
     pub wire_grown : Grown m b (wire_in m b w).mem (wire_in m b w).builder
     unfolding wire_in
@@ -182,12 +182,12 @@ module _ (m : Mem) (k : ℕ) (f : Form) where
   pub saved_biases_lem : length (saved m k f).biases ≡ length m.biases
   saved_biases_lem = simp length-set
 
-module _ (m : Mem) (b : Builder) (left gate : Form) where
+module _ (m : Mem) (b : Standing) (left gate : Form) where
   -- the table once the op is in it, and the builder that then makes its wire
   abbrev with_op : Mem
   with_op = saved (saved m (ops_from + 2 * b.ops) left) (ops_from + 2 * b.ops + 1) gate
 
-  abbrev counted : Builder
+  abbrev counted : Standing
   counted = record { room = b.room; ops = b.ops + 1; cells = b.cells }
 
   push_cases : (P : Ended → Type 0) → ((b.ops < ops_most → b.cells < 65536 → ⊥) → P (full_in m b)) → (b.ops < ops_most → P (wire_in with_op counted (b.cells + b.ops))) → P (push_in m b left gate)

@@ -1,22 +1,11 @@
 -- What is lent to building, and what an operation leaves of it: the arena's two pools, and a table of forms, whose slot k is two numbers and a bias.
 -- Inner: the shape of the code; nobody need believe it.
-use Rattle.std.specs.Prelude.{ℕ, ◌+◌, ◌*◌, ◌≤◌, List, length, get_or, set, Float}
+use Rattle.std.specs.Prelude.{ℕ, ◌+◌, ◌*◌, List, get_or, set, Float}
 use Rattle.std.specs.Float.{nan}
 use Rattle.wire.specs.declared.Form.{Form}
-use Rattle.builder_table.specs.Slots.{ops_from}
-use Rattle.builder_table.specs.declared.Builder.{Builder}
+use Rattle.arena_room.specs.declared.Room.{Room}
 
 -- ---- the table
-
-abbrev pub ops_most : ℕ
-ops_most = 2200
-
-abbrev pub slots_most : ℕ
-slots_most = ops_from + 2 * ops_most
-
--- both slices hold the whole table
-abbrev pub Whole : List ℕ → List Float → Type 0
-Whole nums biases = (2 * slots_most ≤ length nums) × (slots_most ≤ length biases)
 
 abbrev pub slot : List ℕ → List Float → ℕ → Form
 slot nums biases k = record { bias = get_or biases k nan; first = get_or nums (2 * k) 0; len = get_or nums (2 * k + 1) 0 }
@@ -44,23 +33,26 @@ loaded m k = slot m.nums m.biases k
 abbrev pub saved : Mem → ℕ → Form → Mem
 saved m k f = mem m.wires m.coefs (saved_nums m.nums k f) (saved_biases m.biases k f)
 
+-- where building stands: the room in the arena, the ops made so far, and the input cells, past which the ops' wires follow
+pub record Standing : Type 0 where
+  pub room : Room
+  pub ops : ℕ
+  pub cells : ℕ
+
 -- what an operation leaves, where building then stands, and the form that it made
 pub record Ended : Type 0 where
   pub mem : Mem
-  pub builder : Builder
+  pub builder : Standing
   pub form : Form
 
-abbrev pub ended : List ℕ → List Float → List ℕ → List Float → Builder → Form → Ended
-ended wires coefs nums biases b f = record { mem = mem wires coefs nums biases; builder = b; form = f }
-
 -- nothing is done, and f is the answer
-abbrev pub kept : Mem → Builder → Form → Ended
+abbrev pub kept : Mem → Standing → Form → Ended
 kept m b f = record { mem = m; builder = b; form = f }
 
 -- what is left, and where building then stands
 pub record Stood : Type 0 where
   pub mem : Mem
-  pub builder : Builder
+  pub builder : Standing
 
-abbrev pub stood : List ℕ → List Float → List ℕ → List Float → Builder → Stood
-stood wires coefs nums biases b = record { mem = mem wires coefs nums biases; builder = b }
+abbrev pub stood : Mem → Standing → Stood
+stood m b = record { mem = m; builder = b }

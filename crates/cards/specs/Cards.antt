@@ -1,5 +1,5 @@
 -- Document 01's bench cards, those to be proved, as rows of one table, and what it is for a row to hold. Those on ticks are the walk's.
-use Rattle.std.specs.Prelude.{ℕ, ◌+◌, ◌≤◌, ◌≡◌, true, List, [], ◌∷◌, ◌++◌, map, length}
+use Rattle.std.specs.Prelude.{ℕ, ◌+◌, ◌≤◌, ◌≡◌, true, List, [], ◌∷◌, ◌++◌, map, length, Ok, Err}
 use Rattle.tree.specs.Bytes.{bytes_of}
 use Rattle.tree_record.specs.Refusal.{number_of, kind_of}
 use Rattle.wire.specs.declared.Counts.{Counts}
@@ -7,10 +7,9 @@ use Rattle.wire.specs.Storage.{op_slots, term_slots}
 use Rattle.walk.specs.Walk.{Answer}
 use Rattle.walk.specs.Cards.{Card, document}
 use Rattle.tick_check.specs.Check.{stored}
-use Rattle.tick_lane.specs.declared.Ticked.TheVariants.{Accepted}
 use Rattle.tick_lane.specs.Lane.{Lent, Outcome}
 use Rattle.tick.specs.Tick.{tick_of}
-use Rattle.compile.specs.declared.Compiled.{Compiled}
+use Rattle.compile.specs.Answer.{Compiled}
 use Rattle.compile.specs.Compile as compile
 use Rattle.demands.specs.Demands.{over}
 
@@ -53,8 +52,8 @@ pub record Enough (l : compile.Lent) : Type 0 where
   pub terms : 507904 ≤ term_slots l.wires l.coefs
 
 abbrev pub told : Compiled → Said
-told (Compiled.Accepted n) = accepted n.cells n.ops
-told (Compiled.Refused r) = refused (number_of r.cause) r.place (kind_of r.cause)
+told (Ok n) = accepted n.cells n.ops
+told (Err r) = refused (number_of r.cause) r.place (kind_of r.cause)
 
 -- the card's state, and outputs with room, whatever stands in them
 pub record Given (c : Card) (n : Counts) (m : Lent) : Type 0 where
@@ -67,7 +66,7 @@ pub record Given (c : Card) (n : Counts) (m : Lent) : Type 0 where
 
 -- what comes: statuses, halts and edges in their outputs, nothing written past them, and the next state
 pub record Comes (a : Answer) (m : Lent) (o : Outcome) : Type 0 where
-  pub accepted : o.answer ≡ Accepted
+  pub accepted : o.answer ≡ Ok tt
   pub statuses : o.left.statuses ≡ over a.statuses m.statuses
   pub halts : o.left.halts ≡ over a.halts m.halts
   pub edges : o.left.edges ≡ over a.edges m.edges
@@ -77,7 +76,7 @@ pub record Comes (a : Answer) (m : Lent) (o : Outcome) : Type 0 where
 -- the tree's bytes compile, and the tick of the circuit left gives what comes
 pub record Ticked (l : compile.Lent) (c : Card) : Type 0 where
   pub n : Counts
-  pub compiled : (compile.compile_of l (bytes_of c.tree)).answer ≡ Compiled.Accepted n
+  pub compiled : (compile.compile_of l (bytes_of c.tree)).answer ≡ Ok n
   pub comes : (m : Lent) → Given c n m
       → let o = compile.compile_of l (bytes_of c.tree) in
       Comes c.answer m (tick_of (stored n o.nums o.biases o.wires o.coefs) c.row m)

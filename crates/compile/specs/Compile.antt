@@ -1,5 +1,5 @@
 -- Compiling: the answer, and what is left in the circuit storage, for all bytes and all lengths lent. The work room is left zero. Definitions only.
-use Rattle.std.specs.Prelude.{ℕ, ◌+◌, ◌*◌, List, Bool, cond, ◌&&◌, leb, ltb, length, replicate, Float}
+use Rattle.std.specs.Prelude.{ℕ, ◌+◌, ◌*◌, List, Bool, cond, ◌&&◌, leb, ltb, length, replicate, Float, Ok, Err}
 use Rattle.exact.specs.Whole.{zero32}
 use Rattle.tree_record.specs.declared.refusal.Cause.{Cause}
 use Rattle.tree_record.specs.declared.refusal.Cause.TheVariants.{NoOpRoom, NoTermRoom, ShortRoom}
@@ -10,7 +10,7 @@ use Rattle.wire.specs.Terms.{Affine}
 use Rattle.wire.specs.Storage.{ops_from, op_biases_from, op_slots, term_slots}
 use Rattle.construct_floats.specs.Floats.{floats}
 use Rattle.construct.specs.Circuit.{Circuit, flats, construct, op_count, term_count}
-use Rattle.compile.specs.declared.Compiled.{Compiled}
+use Rattle.compile.specs.Answer.{Compiled}
 use Rattle.compile.specs.Encode.{Lists, nums_of, biases_in, wires_of, coefs_of}
 
 -- the lengths of what is lent: circuit storage, then work room
@@ -45,7 +45,7 @@ roomy l =
 abbrev pub refusal : Lent → Cause → ℕ → Outcome
 refusal l cause place =
     record {
-      answer = Compiled.Refused (record { cause = cause; place = place });
+      answer = Err (record { cause = cause; place = place });
       nums = replicate l.nums 0;
       biases = replicate l.biases zero32;
       wires = replicate l.wires 0;
@@ -71,7 +71,7 @@ unfoldable pub stored : Lent → List ℕ → List ℕ → Outcome
 stored l kinds counts =
     let c = circuit_of kinds counts in
     record {
-      answer = Compiled.Accepted (counts_of kinds c);
+      answer = Ok (counts_of kinds c);
       nums = nums_of l.nums (lists_of kinds counts) c;
       biases = biases_in l.biases c;
       wires = wires_of l.wires c;

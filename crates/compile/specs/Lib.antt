@@ -1,2 +1,4 @@
+pub mod Answer
 pub mod Compile
 pub mod Encode
+pub mod Lending

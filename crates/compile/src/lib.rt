@@ -1,21 +1,17 @@
-// What compiling answers, and how much room it needs. The code is crate `lower`; what it leaves in storage is said in specs/.
+// What compiling is lent to work in, and how much of it. The code is crate `lower`; what it leaves in storage is said in specs/.
 #![tactic(auto)]
 
-use tree_record::Refusal;
-use wire::Counts;
-
-// The counts of the circuit that now stands in storage, or why there is none.
-#[derive(Clone, Copy)]
-pub enum Compiled {
-    Accepted(Counts),
-    Refused(Refusal),
+// The work room: the table of forms that are built, and the two pools of their terms.
+#[derive(Drop)]
+pub struct WorkRoom<'a> {
+    pub nums: &'a mut [usize],
+    pub biases: &'a mut [f32],
+    pub wires: &'a mut [u32],
+    pub coefs: &'a mut [f32],
 }
 
-// The lengths of the work room, one number each for all trees.
-#[derive(Clone, Copy)]
-pub struct Room {}
-
-impl Room {
+// The lengths of the slices, one number each for all trees.
+impl WorkRoom<'_> {
     // The table of forms: two numbers and a bias a slot.
     pub const NUMS: usize = 13920;
 

@@ -1,4 +1,5 @@
 -- What one tick computes: one of three statuses, never both ticked and halted, whole sums below 2^24.
+use Rattle.std.specs.Prelude.{Ok}
 use mathlib.Core.Path.{◌≡◌, refl, sym, ◌∙◌, ap}
 use mathlib.Core.Bool.{Bool, true, false, cond, ◌&&◌}
 use mathlib.Core.List.{List, map}
@@ -20,7 +21,6 @@ use Rattle.construct_means.specs.Means as means
 use Rattle.construct_faithful.proofs.Values.{numbers}
 use Rattle.tick_check.specs.Check.{Stored}
 use Rattle.tick_lane.specs.Evaluate as E
-use Rattle.tick_lane.specs.declared.Ticked.TheVariants as is
 use Rattle.tick_lane.specs.Lane.{Lent, outcome}
 use Rattle.compile.specs.Compile as compile
 use Rattle.lists.proofs.Sets.{map_at}
@@ -93,6 +93,6 @@ module _ (f : Forest ℕ) (w : limits.Within f) (l : compile.Lent) (slots : Slot
       go c d p q (inl e) = inl (p ∙ e)
       go c d p q (inr e) = inr (q ∙ e)
 
-  pub sure : Sure s f (record { row = row; lent = m; out = outcome is.Accepted (walked s f row m) })
+  pub sure : Sure s f (record { row = row; lent = m; out = outcome (Ok tt) (walked s f row m) })
   unfolding walked
   sure = record { walks = refl; one_of_three = one_of_three; apart = apart_all; exact = drops_nothing f w l slots row m valid ready }

@@ -24,7 +24,8 @@ use Rattle.tick_lane.specs.Lane as tick
 use Rattle.tick.specs.Tick.{tick_of}
 use Rattle.tick.proofs.tick.Kinds as tick-kinds
 use Rattle.tick.proofs.tick.Reads as tick-reads
-use Rattle.compile.specs.declared.Compiled.{Compiled}
+use Rattle.std.specs.Prelude.{Ok, Err}
+use Rattle.compile.specs.Answer.{Compiled}
 use Rattle.compile.specs.Compile.{Lent, Outcome, roomy, refusal, counts_of, stored, compile_tree, compile_of}
 use Rattle.compile_laws.proofs.Compiles.{tree_circuit}
 use Rattle.lower_emit.specs.Settle.{zeros, zeros32}
@@ -39,10 +40,10 @@ use Rattle.demands.proofs.Refused.{zero_left, tick_leaves}
 
 -- ---- any input: neither contract asks anything of what it is given
 
-pub compile_any : (κs : Lfts 9) (given : Dens κs compile-kinds.ps) → compile-reads.Pre κs given
+pub compile_any : (κs : Lfts 5) (given : Dens κs compile-kinds.ps) → compile-reads.Pre κs given
 compile_any κs given = tt
 
-pub tick_any : (κs : Lfts 11) (given : Dens κs tick-kinds.ps) → tick-reads.Pre κs given
+pub tick_any : (κs : Lfts 5) (given : Dens κs tick-kinds.ps) → tick-reads.Pre κs given
 tick_any κs given = tt
 
 -- ---- compile, whatever its contract permits of bytes that may hold anything
@@ -55,24 +56,24 @@ module _ (bytes : List ℕ) (m : Rooms) (answer : Compiled) (left : Rooms) (perm
   answered e = ap (λ (o : Outcome). o.answer) (compile_is bytes m answer left permitted ∙ e)
 
   -- 14, "before any record is read"; then the reader's refusal, 1 to 8, as it is
-  pub short_room : roomy lengths ≡ false → answer ≡ Compiled.Refused (record { cause = ShortRoom; place = 0 })
+  pub short_room : roomy lengths ≡ false → answer ≡ Err (record { cause = ShortRoom; place = 0 })
   unfolding compile_of
   short_room e = answered (λ i. cond (e i) (compile_tree lengths (tree_of bytes)) (refusal lengths ShortRoom 0))
 
-  pub reader_tied : roomy lengths ≡ true → (r : Refusal) → tree_of bytes ≡ refused r → answer ≡ Compiled.Refused r
+  pub reader_tied : roomy lengths ≡ true → (r : Refusal) → tree_of bytes ≡ refused r → answer ≡ Err r
   unfolding compile_of compile_tree
   reader_tied room r e = answered (λ i. cond (room i) (compile_tree lengths (e i)) (refusal lengths ShortRoom 0))
 
   -- bytes that are no tree's within the limits are refused, whatever is lent
-  pub refuses_others : Bytes bytes → ((f : Forest ℕ) → Within f → bytes ≡ bytes_of f → ⊥) → (r : Refusal) × (answer ≡ Compiled.Refused r)
+  pub refuses_others : Bytes bytes → ((f : Forest ℕ) → Within f → bytes ≡ bytes_of f → ⊥) → (r : Refusal) × (answer ≡ Err r)
   refuses_others b none = go answer refl
     where
-      go : (c : Compiled) → answer ≡ c → (r : Refusal) × (answer ≡ Compiled.Refused r)
-      go (Compiled.Accepted n) e = let t = compiled_tree lengths bytes n b (sym (answered refl) ∙ e) in absurd (none t.0 t.2.within t.1)
-      go (Compiled.Refused r) e = (r, e)
+      go : (c : Compiled) → answer ≡ c → (r : Refusal) × (answer ≡ Err r)
+      go (Ok n) e = let t = compiled_tree lengths bytes n b (sym (answered refl) ∙ e) in absurd (none t.0 t.2.within t.1)
+      go (Err r) e = (r, e)
 
   -- "A refused compile leaves all lent circuit storage zero"
-  pub refused_zero : (r : Refusal) → answer ≡ Compiled.Refused r
+  pub refused_zero : (r : Refusal) → answer ≡ Err r
       → (left.nums ≡ zeros m.nums) × (left.biases ≡ zeros32 m.biases) × (left.wires ≡ zeros m.wires) × (left.coefs ≡ zeros32 m.coefs)
   refused_zero r e =
       let same = compile_is bytes m answer left permitted in
@@ -99,11 +100,11 @@ module _ (f : Forest ℕ) (w : Within f) (m : Rooms) (answer : Compiled) (left :
 
   -- every tree within the limits is accepted where there is room for any
   pub accepts_trees : roomy l ≡ true → 2163 ≤ op_slots l.nums l.biases
-      → 507904 ≤ term_slots l.wires l.coefs → answer ≡ Compiled.Accepted (counts_of (preorder f) (tree_circuit f))
+      → 507904 ≤ term_slots l.wires l.coefs → answer ≡ Ok (counts_of (preorder f) (tree_circuit f))
   accepts_trees room ops terms = answers refl ∙ (compiles_all f w l room ops terms).accepted
 
   -- what an accepted tree's answer counts
-  pub counts_tied : (n : Counts) → answer ≡ Compiled.Accepted n → (n.ops ≡ op_count (tree_circuit f)) × (n.terms ≡ term_count floats (tree_circuit f))
+  pub counts_tied : (n : Counts) → answer ≡ Ok n → (n.ops ≡ op_count (tree_circuit f)) × (n.terms ≡ term_count floats (tree_circuit f))
   counts_tied n e =
       let same = (left_by l f n (record { within = w; accepted = sym (answers refl) ∙ e })).same in
       (ap (λ (s : Stored). s.counts.ops) same, ap (λ (s : Stored). s.counts.terms) same)
@@ -123,13 +124,13 @@ module _ (f : Forest ℕ) (w : Within f) (m : Rooms) (answer : Compiled) (left :
     unfolding compile_of compile_tree
     counted = λ i. cond (room i) (compile_tree l (accepts f w i)) (refusal l ShortRoom 0)
 
-    pub ops_tied : op_slots l.nums l.biases < op_count (tree_circuit f) → answer ≡ Compiled.Refused (record { cause = NoOpRoom; place = 0 })
+    pub ops_tied : op_slots l.nums l.biases < op_count (tree_circuit f) → answer ≡ Err (record { cause = NoOpRoom; place = 0 })
     ops_tied h =
         let a = lt-ltb (op_slots l.nums l.biases) (op_count (tree_circuit f)) h in
         answers (counted ∙ (λ i. cond (a i) (refusal l NoOpRoom 0) (cond no_terms (refusal l NoTermRoom 0) made)))
 
     pub terms_tied : op_count (tree_circuit f) ≤ op_slots l.nums l.biases → term_slots l.wires l.coefs < term_count floats (tree_circuit f)
-        → answer ≡ Compiled.Refused (record { cause = NoTermRoom; place = 0 })
+        → answer ≡ Err (record { cause = NoTermRoom; place = 0 })
     terms_tied k h =
         let a = le-ltb (op_slots l.nums l.biases) (op_count (tree_circuit f)) k in
         let b = lt-ltb (term_slots l.wires l.coefs) (term_count floats (tree_circuit f)) h in
@@ -137,7 +138,7 @@ module _ (f : Forest ℕ) (w : Within f) (m : Rooms) (answer : Compiled) (left :
 
     -- and where the slots are enough for this tree, it is accepted
     pub accepted_tied : op_count (tree_circuit f) ≤ op_slots l.nums l.biases → term_count floats (tree_circuit f) ≤ term_slots l.wires l.coefs
-        → answer ≡ Compiled.Accepted (counts_of (preorder f) (tree_circuit f))
+        → answer ≡ Ok (counts_of (preorder f) (tree_circuit f))
     unfolding stored
     accepted_tied k h =
         let a = le-ltb (op_slots l.nums l.biases) (op_count (tree_circuit f)) k in

@@ -9,9 +9,8 @@ use Rattle.tree.specs.Bytes.{Bytes, Within, bytes_of}
 use Rattle.wire.specs.declared.Counts.{Counts}
 use Rattle.lists.specs.Every.{All}
 use Rattle.tick_check.specs.Check.{Stored}
-use Rattle.tick_lane.specs.declared.Ticked.TheVariants.{Accepted}
 use Rattle.tick_lane.specs.Lane.{Outcome, outcome}
-use Rattle.compile.specs.declared.Compiled.{Compiled}
+use Rattle.std.specs.Prelude.{Ok}
 use Rattle.compile.specs.Compile as compile
 use Rattle.compile_laws.proofs.Compiles.{tree_circuit, stored_of, Slots}
 use Rattle.demands.specs.Contracts.{Rooms, lengths_of, circuit_in, CompilePermits}
@@ -30,7 +29,7 @@ module _ (f : Forest ℕ) (w : Within f) (l : compile.Lent) (slots : Slots l (tr
     ready : Ready f s.counts t.lent
     ready = record { state = rw (step.from_flags, step.from_cursors) state; room = step.room }
 
-    is_walked : t.out ≡ outcome Accepted (walked s f t.row t.lent)
+    is_walked : t.out ≡ outcome (Ok tt) (walked s f t.row t.lent)
     is_walked = tick_is s t.row t.lent t.out step.permitted ∙ ticks f w l slots t.row t.lent step.valid ready
 
     tick_sure : Sure s f t
@@ -52,7 +51,7 @@ module _ (f : Forest ℕ) (w : Within f) (l : compile.Lent) (slots : Slots l (tr
   )
 
 -- Whatever compile's contract permits of the tree's bytes, if it accepts them, and then whatever tick's contract permits, tick after tick.
-pub demand_3 : (f : Forest ℕ) → Within f → (m left : Rooms) (n : Counts) → CompilePermits (bytes_of f) m (Compiled.Accepted n) left
+pub demand_3 : (f : Forest ℕ) → Within f → (m left : Rooms) (n : Counts) → CompilePermits (bytes_of f) m (Ok n) left
     → (flags cursors : List ℕ) → ValidState f flags cursors → (ts : List Tick) → Run (circuit_in n left) f flags cursors ts
     → All (Sure (circuit_in n left) f) ts
 demand_3 f w m left n p flags cursors state ts run =
@@ -60,13 +59,13 @@ demand_3 f w m left n p flags cursors state ts run =
     subst (λ (s : Stored). Run s f flags cursors ts → All (Sure s f) ts) (sym b.same) (runs f w (lengths_of m) b.slots ts flags cursors state) run
 
 -- Whatever bytes compile accepts, they are such a tree's.
-pub demand_3_compiled : (bytes : List ℕ) → Bytes bytes → (m left : Rooms) (n : Counts) → CompilePermits bytes m (Compiled.Accepted n) left
+pub demand_3_compiled : (bytes : List ℕ) → Bytes bytes → (m left : Rooms) (n : Counts) → CompilePermits bytes m (Ok n) left
     → (f : Forest ℕ) × (bytes ≡ bytes_of f) × Within f
     × ((flags cursors : List ℕ) → ValidState f flags cursors → (ts : List Tick) → Run (circuit_in n left) f flags cursors ts
     → All (Sure (circuit_in n left) f) ts)
 demand_3_compiled bytes b m left n p =
-    let said = ap (λ (o : compile.Outcome). o.answer) (sym (compile_is bytes m (Compiled.Accepted n) left p)) in
+    let said = ap (λ (o : compile.Outcome). o.answer) (sym (compile_is bytes m (Ok n) left p)) in
     let t = compiled_tree (lengths_of m) bytes n b said in
     let f = t.0 in
     let w = t.2.within in
-    (f, t.1, w, demand_3 f w m left n (subst (λ (bs : List ℕ). CompilePermits bs m (Compiled.Accepted n) left) t.1 p))
+    (f, t.1, w, demand_3 f w m left n (subst (λ (bs : List ℕ). CompilePermits bs m (Ok n) left) t.1 p))

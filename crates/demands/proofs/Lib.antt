@@ -4,6 +4,7 @@ pub mod Demand2
 pub mod Demand3
 pub mod Exact
 pub mod Left
+pub mod Lengths
 pub mod Once
 pub mod Permitted
 pub mod Refused

@@ -1,4 +1,5 @@
 -- One tick of what compile leaves of a tree: no refusal, and the walk's answer.
+use Rattle.std.specs.Prelude.{Ok}
 use mathlib.Core.Path.{◌≡◌, refl, sym, ◌∙◌, ap, subst}
 use mathlib.Core.Bool.{Bool, true, false, cond, ◌&&◌}
 use mathlib.Core.List.{List, [], ◌∷◌, map}
@@ -15,9 +16,7 @@ use Rattle.plan.proofs.Laws.{places_rise}
 use Rattle.wire.specs.declared.Counts.{Counts}
 use Rattle.wire.specs.Storage.{leaves_from}
 use Rattle.lists.specs.Fill.{prefix}
-use Rattle.tick_verdict.specs.declared.Validated.{Validated}
-use Rattle.tick_verdict.specs.declared.Validated.TheVariants.{Sound}
-use Rattle.tick_verdict.specs.Verdict.{tick_verdict, node_of}
+use Rattle.tick_verdict.specs.Verdict.{Verdict, tick_verdict, node_of}
 use Rattle.lists.specs.Every.{All}
 use Rattle.walk.specs.Kind as K
 use Rattle.walk.specs.Walk.{Fate, fates_of, walk, answer_of, next_flag, cells_in, slots_in}
@@ -27,9 +26,8 @@ use Rattle.construct_faithful.proofs.Values.{numbers}
 use Rattle.tick_lane.specs.Answers.{edge_at}
 use Rattle.tick_check.specs.Check.{Stored}
 use Rattle.tick_lane.specs.Evaluate.{table_of, outs_of}
-use Rattle.tick_lane.specs.declared.Ticked.{Ticked}
-use Rattle.tick_lane.specs.declared.Ticked.TheVariants as is
-use Rattle.tick_lane.specs.Lane.{unless, Lent, lent, outcome, after, first_above, inputs_of, is_sound, written, settle_of, computed, lane_of}
+use Rattle.tick_lane.specs.declared.TickError.TheVariants as is
+use Rattle.tick_lane.specs.Lane.{Ticked, unless, Lent, lent, outcome, after, first_above, inputs_of, judged, written, settle_of, computed, lane_of}
 use Rattle.tick.specs.Tick.{shapes_of, gate_of, tick_of}
 use Rattle.compile.specs.Compile as compile
 use Rattle.lists.proofs.Sets.{map_at}
@@ -56,12 +54,12 @@ unfolding first_above
 none_above most [] h = refl
 none_above most (x ∷ xs) h = (λ i. cond (le-ltb most x h.0 i) 0 (suc (none_above most xs h.1 i)))
 
-inputs_ok : (row flags : List ℕ) → All (λ (x : ℕ). x ≤ 2) row → All (λ (x : ℕ). x ≤ 1) flags → inputs_of row flags ≡ is.Accepted
+inputs_ok : (row flags : List ℕ) → All (λ (x : ℕ). x ≤ 2) row → All (λ (x : ℕ). x ≤ 1) flags → inputs_of row flags ≡ Ok tt
 unfolding inputs_of
 inputs_ok row flags r f =
     λ i.
     unless (eq-eqb (first_above 2 row) (length row) (none_above 2 row r) i) (is.BadStatus (first_above 2 row))
-    (unless (eq-eqb (first_above 1 flags) (length flags) (none_above 1 flags f) i) (is.BadFlag (node_of (first_above 1 flags))) is.Accepted)
+    (unless (eq-eqb (first_above 1 flags) (length flags) (none_above 1 flags f) i) (is.BadFlag (node_of (first_above 1 flags))) (Ok tt))
 
 module _ (f : Forest ℕ) (w : limits.Within f) (l : compile.Lent) (slots : Slots l (tree_circuit f))
     (row : List ℕ) (m : Lent) (valid : ValidRow f row) (ready : Ready f (stored_of l f).counts m) where
@@ -91,7 +89,7 @@ module _ (f : Forest ℕ) (w : limits.Within f) (l : compile.Lent) (slots : Slot
 
   -- ---- 17, 11, 12, 13, 14
 
-  gate_ok : gate_of s row m ≡ is.Accepted
+  gate_ok : gate_of s row m ≡ Ok tt
   unfolding shapes_of
   gate_ok =
       let nodes = preorder_length f in
@@ -107,7 +105,7 @@ module _ (f : Forest ℕ) (w : limits.Within f) (l : compile.Lent) (slots : Slot
       (unless (a i) (is.LeafCount (length row))
       (unless (b i) (is.StateShape (length m.flags))
       (unless (c i) (is.CursorCount (length m.cursors))
-      (unless (v i && (t i && (h i && e i))) is.ShortRoom is.Accepted))))
+      (unless (v i && (t i && (h i && e i))) is.ShortRoom (Ok tt)))))
 
   -- ---- 18
 
@@ -125,7 +123,7 @@ module _ (f : Forest ℕ) (w : limits.Within f) (l : compile.Lent) (slots : Slot
   pub outs_same : outs_of s table ≡ numbers (values_of xs)
   outs_same = outs_are f w l slots m.flags m.cursors row m.values given ready.room.values
 
-  sound : tick_verdict (numbers (values_of xs)) n.nodes n.cursors ≡ Sound
+  sound : tick_verdict (numbers (values_of xs)) n.nodes n.cursors ≡ Ok tt
   sound = verdict_sound xs cs n.nodes n.cursors fate_count resume_count resumes_low
 
   -- ---- what is written
@@ -160,24 +158,23 @@ module _ (f : Forest ℕ) (w : limits.Within f) (l : compile.Lent) (slots : Slot
       λ i. lent (e1 i) (e2 i) table (e3 i) (e4 i) (edges_same m.edges i)
 
   -- THE LAW
-  pub ticks : tick_of s row m ≡ outcome is.Accepted (walked s f row m)
+  pub ticks : tick_of s row m ≡ outcome (Ok tt) (walked s f row m)
   unfolding tick_of lane_of settle_of
   ticks =
-      let v = tick_verdict (outs_of s table) n.nodes n.cursors in
       let made = written n s.nums (numbers (values_of xs)) (computed m table) in
       let inputs = inputs_ok row m.flags valid.low ready.state.flags_low in
       ap (λ (t : Ticked). after t m (lane_of s row m)) gate_ok
       ∙ ap (λ (t : Ticked). after t m (settle_of n s.nums (outs_of s table) (computed m table))) inputs
       ∙ ap (λ (outs : List Float). settle_of n s.nums outs (computed m table)) outs_same
-      ∙ ap (λ (u : Validated). cond (is_sound u) (outcome is.Accepted made) (outcome (is.BadInvariant u) (computed m table))) sound
-      ∙ ap (outcome is.Accepted) written_same
+      ∙ ap (λ (u : Verdict). judged u made (computed m table)) sound
+      ∙ ap (outcome (Ok tt)) written_same
 
 -- the same of what compile leaves, in its own words
 pub ticks_left : (l : compile.Lent) (f : Forest ℕ) (n : Counts) → Compiles l f n → (row : List ℕ) (m : Lent) → ValidRow f row → Ready f n m
-    → tick_of (left_within l f n) row m ≡ outcome is.Accepted (walked (left_within l f n) f row m)
+    → tick_of (left_within l f n) row m ≡ outcome (Ok tt) (walked (left_within l f n) f row m)
 ticks_left l f n c row m valid ready =
     let b = left_by l f n c in
-    subst (λ (s : Stored). Ready f s.counts m → tick_of s row m ≡ outcome is.Accepted (walked s f row m)) (sym b.same)
+    subst (λ (s : Stored). Ready f s.counts m → tick_of s row m ≡ outcome (Ok tt) (walked s f row m)) (sym b.same)
     (λ r. ticks f c.within l b.slots row m valid r) ready
 
 -- ---- the next tick

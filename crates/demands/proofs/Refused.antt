@@ -12,19 +12,18 @@ use Rattle.tree.specs.Tree.{Parsed, accepted, refused, tree_of}
 use Rattle.tree_record.specs.declared.refusal.Cause.{Cause}
 use Rattle.tree_record.specs.declared.refusal.Cause.TheVariants.{NoOpRoom, NoTermRoom, ShortRoom}
 use Rattle.tree_record.specs.declared.refusal.Refusal.{Refusal}
-use Rattle.tick_verdict.specs.declared.Validated.{Validated}
-use Rattle.tick_verdict.specs.Verdict.{tick_verdict, node_of}
+use Rattle.tick_verdict.specs.Verdict.{Verdict, tick_verdict, node_of}
 use Rattle.wire.specs.declared.Counts.{Counts}
 use Rattle.wire.specs.Storage.{op_slots, term_slots}
 use Rattle.construct_floats.specs.Floats.{floats}
 use Rattle.construct.specs.Circuit.{op_count, term_count}
 use Rattle.tick_check.specs.Check.{Stored, circuit_ok}
-use Rattle.tick_lane.specs.declared.Ticked.{Ticked}
-use Rattle.tick_lane.specs.declared.Ticked.TheVariants as is
+use Rattle.tick_lane.specs.declared.TickError.{TickError}
+use Rattle.tick_lane.specs.declared.TickError.TheVariants as is
 use Rattle.tick_lane.specs.Evaluate.{table_of, outs_of}
 use Rattle.tick_lane.specs.Lane as lane
 use Rattle.tick.specs.Tick.{room_for, shapes_of, gate_of, tick_of}
-use Rattle.compile.specs.declared.Compiled.{Compiled}
+use Rattle.std.specs.Prelude.{Ok, Err}
 use Rattle.compile.specs.Compile.{Lent, Outcome, roomy, refusal, circuit_of, counts_of, stored, compile_tree, compile_of}
 use Rattle.demands.specs.Demands.{unwritten}
 
@@ -36,7 +35,7 @@ Zeros l o =
     × (o.wires ≡ replicate l.wires 0) × (o.coefs ≡ replicate l.coefs zero32)
 
 abbrev LeavesZeros : Lent → Outcome → Type 0
-LeavesZeros l o = (r : Refusal) → o.answer ≡ Compiled.Refused r → Zeros l o
+LeavesZeros l o = (r : Refusal) → o.answer ≡ Err r → Zeros l o
 
 all_zero : (l : Lent) (c : Cause) (place : ℕ) → LeavesZeros l (refusal l c place)
 all_zero l c place r e = (refl, refl, refl, refl)
@@ -45,7 +44,7 @@ either : (l : Lent) (test : Bool) (o o' : Outcome) → LeavesZeros l o → Leave
 either l true o o' z z' = z
 either l false o o' z z' = z'
 
-not_refused : (n : Counts) (r : Refusal) → Compiled.Accepted n ≡ Compiled.Refused r → ⊥
+not_refused : (n : Counts) (r : Refusal) → Ok n ≡ Err r → ⊥
 not_refused n r e = let z : ◌≡◌ {A = ℕ} 0 1 = cc in omega arith
 
 tree_zeros : (l : Lent) (p : Parsed) → LeavesZeros l (compile_tree l p)
@@ -66,10 +65,10 @@ zero_left l bytes = either l (roomy l) (compile_tree l (tree_of bytes)) (refusal
 -- ---- tick: nothing written, but for 18's table
 
 -- none of the refusals before 18 is 18
-abbrev Before : Ticked → Type 0
+abbrev Before : lane.Ticked → Type 0
 Before t = eqb (lane.number_of t) 18 ≡ false
 
-before : (test : Bool) (refusal next : Ticked) → Before refusal → Before next → Before (lane.unless test refusal next)
+before : (test : Bool) (refusal : TickError) (next : lane.Ticked) → Before (Err refusal) → Before next → Before (lane.unless test refusal next)
 before true refusal next r n = n
 before false refusal next r n = r
 
@@ -84,14 +83,14 @@ module _ (s : Stored) (row : List ℕ) (l : lane.Lent) where
       before (circuit_ok s) is.BadCircuit _ refl
       (before (eqb (length row) n.leaves) (is.LeafCount (length row)) _ refl
       (before (eqb flags n.nodes) (is.StateShape flags) _ refl
-      (before (eqb cursors n.cursors) (is.CursorCount cursors) _ refl (before room is.ShortRoom is.Accepted refl refl))))
+      (before (eqb cursors n.cursors) (is.CursorCount cursors) _ refl (before room is.ShortRoom (Ok tt) refl refl))))
 
   inputs_before : Before (lane.inputs_of row l.flags)
   unfolding lane.inputs_of
   inputs_before =
       let slot = lane.first_above 2 row in
       let node = lane.first_above 1 l.flags in
-      before (eqb slot (length row)) (is.BadStatus slot) _ refl (before (eqb node (length l.flags)) (is.BadFlag (node_of node)) is.Accepted refl refl)
+      before (eqb slot (length row)) (is.BadStatus slot) _ refl (before (eqb node (length l.flags)) (is.BadFlag (node_of node)) (Ok tt) refl refl)
 
   abbrev table : List Float
   table = table_of s row l.flags l.cursors l.values
@@ -102,7 +101,7 @@ module _ (s : Stored) (row : List ℕ) (l : lane.Lent) where
   abbrev Leaves : lane.Outcome → Type 0
   Leaves o = lane.accepted o.answer ≡ false → o.left ≡ unwritten s row l o.answer
 
-  after_leaves : (t : Ticked) (next : lane.Outcome) → Before t → Leaves next → Leaves (lane.after t l next)
+  after_leaves : (t : lane.Ticked) (next : lane.Outcome) → Before t → Leaves next → Leaves (lane.after t l next)
   after_leaves t next b n = go (lane.accepted t)
     where
       go : (a : Bool) → Leaves (cond a next (lane.outcome t l))
@@ -112,12 +111,11 @@ module _ (s : Stored) (row : List ℕ) (l : lane.Lent) where
   settle_leaves : Leaves (lane.settle_of s.counts s.nums (outs_of s table) with_table)
   unfolding lane.settle_of
   settle_leaves =
-      let v = tick_verdict (outs_of s table) s.counts.nodes s.counts.cursors in
-      at (lane.is_sound v) v (lane.written s.counts s.nums (outs_of s table) with_table)
+      at (tick_verdict (outs_of s table) s.counts.nodes s.counts.cursors) (lane.written s.counts s.nums (outs_of s table) with_table)
     where
-      at : (b : Bool) (v : Validated) (made : lane.Lent) → Leaves (cond b (lane.outcome is.Accepted made) (lane.outcome (is.BadInvariant v) with_table))
-      at true v made e = absurd (true≢false e)
-      at false v made e = refl
+      at : (v : Verdict) (made : lane.Lent) → Leaves (lane.judged v made with_table)
+      at (Ok sound) made e = absurd (true≢false e)
+      at (Err what) made e = refl
 
   pub tick_leaves : Leaves (tick_of s row l)
   unfolding tick_of lane.lane_of

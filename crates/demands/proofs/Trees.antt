@@ -22,7 +22,7 @@ use Rattle.construct_faithful.proofs.Float.{float, float_term}
 use Rattle.construct_instances.proofs.Respects.{of_op}
 use Rattle.construct_means.specs.Means.{circuit_of}
 use Rattle.lower_room.proofs.CountCircuit.{ops_slots, terms_most}
-use Rattle.compile.specs.declared.Compiled.{Compiled}
+use Rattle.std.specs.Prelude.{Ok}
 use Rattle.compile.specs.Compile.{Lent, roomy, refusal, counts_of, stored, compile_tree, compile_of}
 use Rattle.compile_laws.proofs.Compiles.{tree_circuit}
 use Rattle.compile_laws.proofs.Shape.{in_floats}
@@ -31,16 +31,16 @@ use Rattle.compile_laws.proofs.Passes.{some_node_lem}
 use Rattle.demands.proofs.Left.{Compiles, clash, passed}
 
 -- whatever bytes compile, they are a tree's, of which the demands speak
-pub compiled_tree : (l : Lent) (bytes : List ℕ) (n : Counts) → Bytes bytes → (compile_of l bytes).answer ≡ Compiled.Accepted n
+pub compiled_tree : (l : Lent) (bytes : List ℕ) (n : Counts) → Bytes bytes → (compile_of l bytes).answer ≡ Ok n
     → (f : Forest ℕ) × (bytes ≡ bytes_of f) × Compiles l f n
 unfolding compile_of compile_tree
 compiled_tree l bytes n b e = go (tree_of bytes) refl (passed l ShortRoom n (roomy l) (compile_tree l (tree_of bytes)) e).1
   where
-    go : (p : Parsed) → tree_of bytes ≡ p → (compile_tree l p).answer ≡ Compiled.Accepted n → (f : Forest ℕ) × (bytes ≡ bytes_of f) × Compiles l f n
+    go : (p : Parsed) → tree_of bytes ≡ p → (compile_tree l p).answer ≡ Ok n → (f : Forest ℕ) × (bytes ≡ bytes_of f) × Compiles l f n
     go (refused r) q a = absurd (clash l r.cause r.place n a)
     go (accepted ks cs) q a =
         let t = accepted_tree bytes ks cs b q in
-        let same = subst (λ (bs : List ℕ). (compile_of l bs).answer ≡ Compiled.Accepted n) t.bytes_are e in
+        let same = subst (λ (bs : List ℕ). (compile_of l bs).answer ≡ Ok n) t.bytes_are e in
         (t.tree, t.bytes_are, record { within = t.within; accepted = same })
 
 -- ---- room for every tree

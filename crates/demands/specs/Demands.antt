@@ -1,6 +1,6 @@
 -- What the demands speak of: valid rows, states and room, what a tick leaves that answers as the direct walk, many ticks in turn, and the
 -- clauses on what each tick computes. Definitions only.
-use Rattle.std.specs.Prelude.{ℕ, ◌+◌, ◌-◌, ◌*◌, ◌≤◌, ◌<◌, ◌≡◌, cond, ◌⊎◌, List, [], ◌∷◌, ◌++◌, map, eqb, length, get_or, drop, Float}
+use Rattle.std.specs.Prelude.{ℕ, ◌+◌, ◌-◌, ◌*◌, ◌≤◌, ◌<◌, ◌≡◌, cond, ◌⊎◌, List, [], ◌∷◌, ◌++◌, map, eqb, length, get_or, drop, Ok, Float}
 use Rattle.std.specs.Float.{nan, binary32}
 use Rattle.std.specs.Float.Ieee.{add, mul}
 use Rattle.exact.specs.Whole.{diff, Within}
@@ -14,9 +14,7 @@ use Rattle.walk.specs.Status.{Success, is_success, is_failure, is_running_status
 use Rattle.walk.specs.Walk.{Fate, fates_of, cells_in, slots_in, walk}
 use Rattle.tick_check.specs.Check.{Stored}
 use Rattle.tick_lane.specs.Evaluate.{bit, table_of, out_value}
-use Rattle.tick_lane.specs.declared.Ticked.{Ticked}
-use Rattle.tick_lane.specs.declared.Ticked.TheVariants.{Accepted}
-use Rattle.tick_lane.specs.Lane.{number_of, Lent, Outcome, lent, outcome, computed}
+use Rattle.tick_lane.specs.Lane.{Ticked, number_of, Lent, Outcome, lent, outcome, computed}
 use Rattle.demands.specs.Contracts.{TickPermits}
 
 -- ---- what is given
@@ -91,7 +89,8 @@ Run s f flags cursors (t ∷ ts) = Step s f flags cursors t × Run s f t.out.lef
 abbrev pub OneOfThree : Stored → List Float → List Fate → Type 0
 OneOfThree s table xs = (i : ℕ) → i < s.counts.nodes
     → let would = get_or (map (λ (x : Fate). x.would) xs) i Success in
-    (out_value s table (6 * i) ≡ bit (is_success would)) × (out_value s table (6 * i + 1) ≡ bit (is_failure would)) × (out_value s table (6 * i + 2) ≡ bit (is_running_status would))
+    (out_value s table (6 * i) ≡ bit (is_success would))
+    × (out_value s table (6 * i + 1) ≡ bit (is_failure would)) × (out_value s table (6 * i + 2) ≡ bit (is_running_status would))
 
 -- "no node is both ticked and halted"
 abbrev pub NeverBoth : Stored → Lent → Type 0
@@ -137,7 +136,7 @@ pub record DropsNothing (s : Stored) (table : List Float) : Type 0 where
 -- the clauses together, of the circuit s of a tree and of a tick: "no tick is refused", "each tick's answers and the state it leaves are those of
 -- the direct walk", and the others
 pub record Sure (s : Stored) (f : Forest ℕ) (t : Tick) : Type 0 where
-  pub walks : t.out ≡ outcome Accepted (walked s f t.row t.lent)
+  pub walks : t.out ≡ outcome (Ok tt) (walked s f t.row t.lent)
   pub one_of_three : OneOfThree s t.out.left.values (fates_of f t.lent.flags t.lent.cursors t.row)
   pub apart : NeverBoth s t.out.left
   pub exact : DropsNothing s t.out.left.values

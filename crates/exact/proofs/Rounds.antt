@@ -1,5 +1,4 @@
 -- A test of whole floats with no remainder: from 2^23 on a float has no fraction, so adding such a number rounds to a whole one, and taking it away again gives x back if x is whole.
---
 use mathlib.Core.Path.{◌≡◌, sym, ap, ◌∙◌, subst}
 use mathlib.Core.Logic.{◌⊎◌, inl, inr}
 use mathlib.Core.Bool.{Bool, true, false, ◌&&◌}

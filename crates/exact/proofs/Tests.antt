@@ -1,5 +1,4 @@
 -- What the tests of one float tell: a float that passes is a number in one of two ways, its own float or -0 for 0, and the code's tests are those of specs/Tests.antt.
---
 use mathlib.Core.Path.{◌≡◌, refl, sym, ap, ◌∙◌, subst}
 use mathlib.Core.Logic.{◌⊎◌, inl, inr}
 use mathlib.Core.Bool.{Bool, true, false, not, ◌&&◌, ◌||◌, beq, cond}

@@ -3,7 +3,7 @@
 use mathlib.Core.Path.{◌≡◌, refl, sym, ap, ◌∙◌, subst}
 use mathlib.Core.Bool.{Bool, true, false, not, ◌&&◌, ◌||◌, beq, cond}
 use Prim.Native.Nat.{ℕ, ◌+◌, ◌-◌, ◌*◌, ◌^◌, ◌≤◌, ◌<◌}
-use native.Mathlib.Nat.{mul-one, mul_assoc, mul_comm, mul-mul-mul_comm, mul-sub, mul-pos, add-mul, zero-lt-suc, zero-mul, mul-lt-mul_of_pos_right, mul-le-mul_right, not-le_of_lt, eq_of_mul-eq-mul_right}
+use native.Mathlib.Nat.{mul-one, mul_assoc, mul_comm, mul-mul-mul_comm, mul-sub, mul-pos, add-mul, zero-lt-suc, zero-mul, mul-lt-mul_of_pos_right, lt_of_mul-lt-mul_right, eq_of_mul-eq-mul_right}
 use native.Mathlib.Omega.{arith}
 use lib.IntN.{pos}
 use lib.Dec.{T, ltb, leb, eqb, ltb→lt, lt→ltb, nltb→le, eqb→eq, leb→le, le→leb}
@@ -34,15 +34,8 @@ ltb_iff a b c d h k = same_test (ltb a b) (ltb c d) (λ t. lt→ltb c d (h (ltb�
 eqb_iff : (a b c d : ℕ) → (a ≡ b → c ≡ d) → (c ≡ d → a ≡ b) → eqb a b ≡ eqb c d
 eqb_iff a b c d h k = same_test (eqb a b) (eqb c d) (λ t. eq→eqb (h (eqb→eq a b t))) (λ t. eq→eqb (k (eqb→eq c d t)))
 
-lt_unscale : (a b c : ℕ) → a * c < b * c → a < b
-lt_unscale a b c h = go (ltb a b) (ltb→lt a b) (nltb→le a b)
-  where
-    go : (t : Bool) → (T t → a < b) → (T (not t) → b ≤ a) → a < b
-    go true y n = y tt
-    go false y n = absurd (not-le_of_lt h (mul-le-mul_right c (n tt)))
-
 ltb_scale : (a b c : ℕ) → 0 < c → ltb (a * c) (b * c) ≡ ltb a b
-ltb_scale a b c p = ltb_iff (a * c) (b * c) a b (lt_unscale a b c) (λ h. mul-lt-mul_of_pos_right h p)
+ltb_scale a b c p = ltb_iff (a * c) (b * c) a b (lt_of_mul-lt-mul_right c) (λ h. mul-lt-mul_of_pos_right h p)
 
 eqb_scale : (a b c : ℕ) → 0 < c → eqb (a * c) (b * c) ≡ eqb a b
 eqb_scale a b c p = eqb_iff (a * c) (b * c) a b (eq_of_mul-eq-mul_right c p a b) (ap (λ (z : ℕ). z * c))

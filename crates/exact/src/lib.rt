@@ -11,11 +11,11 @@ ghost use Rattle.exact.specs.Tests.{is_bit, natural, small, coefficient, relu, c
 pub fn of_cursor(c: u32) -> f32
     ensures { result ≡ diff binary32 (min c 65535) 0 }
 {
-    let n = if c < 65535 { c } else { 65535 };
-    n as f32
+    c.min(65535) as f32
 }
 
 // max(0, x). A NaN counts as 0, and the answer is never -0.0.
+#[tactic(auto, unfolding(crate::specs::Tests::relu))]
 pub fn positive_part(x: f32) -> f32
     ensures { result ≡ relu x }
 {

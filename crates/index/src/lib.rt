@@ -11,8 +11,7 @@ impl Wire {
     pub fn position(self) -> usize
         ensures { result ≡ self.0 }
     {
-        let position = self.0;
-        position as usize
+        self.0 as usize
     }
 }
 

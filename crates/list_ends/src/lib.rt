@@ -8,6 +8,7 @@ ghost use Rattle.list_ends.specs.Ends.{last_line, unread};
 use list_text::write_bad;
 
 // Prints what the end of the input asks for where so many bytes are left: nothing, or that the record which they begin is bad.
+#[tactic(auto, unfolding(crate::specs::Ends::last_line))]
 pub fn finish(left: usize, out: &mut [u8]) -> usize
     ensures value { result ≡ length (last_line left) }
     ensures out_after { out.new ≡ placed (last_line left) out.old }
@@ -24,15 +25,9 @@ pub fn move_down(buffer: &mut [u8], from: usize, have: usize) -> usize
     ensures value { result ≡ length (unread buffer.old from have) }
     ensures buffer_after { buffer.new ≡ placed (unread buffer.old from have) buffer.old }
 {
-    if buffer.len() < have {
+    if buffer.len() < have || have < from {
         return 0;
     }
-    let mut at = from;
-    let mut moved: usize = 0;
-    while at < have {
-        buffer[moved] = buffer[at];
-        moved += 1;
-        at += 1;
-    }
-    moved
+    buffer.copy_within(from..have, 0);
+    have - from
 }

@@ -1,8 +1,5 @@
 -- Document 01's example of the listing program: a Sequence of two leaves, and two rows.
-use mathlib.Core.Path.{◌≡◌, refl, ◌∙◌, ap}
-use mathlib.Core.List.{List, [], ◌∷◌}
-use Prim.Native.Nat.{ℕ}
-use native.Mathlib.Omega.{arith}
+use Rattle.std.proofs.Common.{◌≡◌, List, [], ◌∷◌, ℕ, refl, ◌∙◌, ap, arith}
 use Rattle.tree_kinds.specs.Kinds.{rows, row_of}
 use Rattle.text.specs.Text.{decimal_in, decimal}
 use Rattle.lists.specs.Every.{All}

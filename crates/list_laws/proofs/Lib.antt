@@ -3,3 +3,4 @@ pub mod Example
 pub mod Printed
 pub mod Records
 pub mod Walked
+pub mod Written

@@ -1,11 +1,6 @@
 -- A record that is written is read as it was written.
-use mathlib.Core.Path.{◌≡◌, sym, ◌∙◌, ap}
-use mathlib.Core.List.{List, [], ◌++◌, append-nil}
-use Prim.Native.Nat.{ℕ, ◌+◌, ◌*◌, ◌-◌, ◌/◌, ◌%◌}
-use native.Mathlib.Omega.{arith}
-use borrow.Author.Tests.{le-ltb}
-use lib.ListN.{length, take, drop, length-append}
-use lib.Seq.{take_at, drop_at, take_all}
+use Rattle.std.proofs.Common.{◌≡◌, List, [], ◌++◌, ℕ, ◌+◌, ◌*◌, ◌-◌, ◌/◌, ◌%◌, length, take, drop, sym, ◌∙◌, ap, append-nil, arith, le-ltb}
+use Rattle.std.proofs.Common.{length-append, take_at, drop_at, take_all}
 use Rattle.list_text.specs.declared.outer.Outer.TheVariants.{Whole}
 use Rattle.list_text.specs.Outer.{outer_at}
 use Rattle.list_laws.specs.Lines.{outer_record}

@@ -1,12 +1,6 @@
 -- What is listed of a tree within the limits and valid rows is the lines of the direct walk.
-use mathlib.Core.Path.{◌≡◌, refl, sym, ◌∙◌, ap}
-use mathlib.Core.Bool.{true}
-use mathlib.Core.List.{List, [], ◌∷◌, ◌++◌}
-use Prim.Native.Nat.{ℕ, zero, suc, ◌≤◌}
-use native.Mathlib.Omega.{arith}
-use borrow.Author.Tests.{le-leb, leb-true}
-use lib.ListN.{length, take, drop, replicate, length-replicate, drop_of_length-le}
-use lib.Seq.{take_at}
+use Rattle.std.proofs.Common.{◌≡◌, true, List, [], ◌∷◌, ◌++◌, ℕ, zero, suc, ◌≤◌, length, take, drop, replicate, refl, sym, ◌∙◌, ap, arith, le-leb, leb-true, take_at}
+use Rattle.std.proofs.lemmas.List.{length-replicate, drop_all}
 use Rattle.exact.specs.Whole.{zero32}
 use Rattle.tree.specs.Forest.{Forest, preorder}
 use Rattle.tree.specs.Bytes.{Within, bytes_of}
@@ -17,7 +11,7 @@ use Rattle.tick_check.specs.Check.{Stored}
 use Rattle.tick_lane.specs.Evaluate.{table_of}
 use Rattle.tick_lane.proofs.Cells.{table_length}
 use Rattle.tick_lane.specs.Lane.{Lent, lent, accepted}
-use Rattle.compile.specs.declared.Compiled.{Compiled}
+use Rattle.compile.specs.Answer.{Compiled}
 use Rattle.compile.specs.Compile as compile
 use Rattle.compile_laws.proofs.Compiles.{tree_circuit, stored_of, Slots}
 use Rattle.tree.proofs.Lengths.{preorder_length}
@@ -57,7 +51,9 @@ module _ (f : Forest ℕ) (w : Within f) where
   -- ---- a row
 
   line_is : (number : ℕ) (flags cursors row : List ℕ)
-      → (let a = walk f flags cursors row in line_of number (take s.counts.nodes (over a.statuses outputs)) (take s.counts.nodes (over a.halts outputs)) a.cursors (take s.counts.leaves (over a.edges outputs))
+      → (let a = walk f flags cursors row in
+      line_of number (take s.counts.nodes (over a.statuses outputs)) (take s.counts.nodes (over a.halts outputs)) a.cursors
+      (take s.counts.leaves (over a.edges outputs))
       ≡ tick_line number a.statuses a.halts a.cursors a.edges)
   unfolding line_of
   line_is number flags cursors row =
@@ -67,9 +63,9 @@ module _ (f : Forest ℕ) (w : Within f) where
       let nodes = preorder_length f in
       let leaves = leaves_count f w.lowered w.few in
       let cells = cursors_count f w.lowered w.few in
-      let x : take s.counts.nodes (over a.statuses outputs) ≡ a.statuses = take_at a.statuses (drop (length a.statuses) outputs) s.counts.nodes (z.statuses ∙ sym nodes) in
-      let y : take s.counts.nodes (over a.halts outputs) ≡ a.halts = take_at a.halts (drop (length a.halts) outputs) s.counts.nodes (z.halts ∙ sym nodes) in
-      let e : take s.counts.leaves (over a.edges outputs) ≡ a.edges = take_at a.edges (drop (length a.edges) outputs) s.counts.leaves (z.edges ∙ sym leaves) in
+      let x = take_at a.statuses (drop (length a.statuses) outputs) s.counts.nodes (z.statuses ∙ sym nodes) in
+      let y = take_at a.halts (drop (length a.halts) outputs) s.counts.nodes (z.halts ∙ sym nodes) in
+      let e = take_at a.edges (drop (length a.edges) outputs) s.counts.leaves (z.edges ∙ sym leaves) in
       let p = le-leb (length a.statuses) 128 (omega (arith, z.statuses)) in
       let q = le-leb (length a.cursors) 128 (omega (arith, z.cursors, cursors_few f w.lowered w.few)) in
       let r = le-leb (length a.edges) 128 (omega (arith, z.edges, leaves_few f w.lowered w.few)) in
@@ -100,11 +96,13 @@ module _ (f : Forest ℕ) (w : Within f) where
         ∙ ap (shows (ends row_kind row) number) row_is
 
     -- a row is a line, and then the rest from the next state on
-    row_listed : (more : List ℕ) → rest_of s (outer_record row_kind row ++ more) number k ≡ printed.text ++ rest_of s more (next_number number) next
+    row_listed : (more : List ℕ)
+        → rest_of s (outer_record row_kind row ++ more) number k ≡ printed.text ++ rest_of s more (next_number number) next
     row_listed more =
         rest_goes s number k more (outer_record row_kind row) (ap (λ (o : Step). o.goes) step_is)
         ∙ (λ i. (step_is i).text ++ rest_of s (drop (step_is i).read (outer_record row_kind row) ++ more) (step_is i).number (step_is i).kept)
-        ∙ ap (λ (l : List ℕ). printed.text ++ rest_of s (l ++ more) (next_number number) next) (drop_of_length-le (outer_record row_kind row) {i = ends row_kind row} (omega (arith, record_length row_kind row)))
+        ∙ ap (λ (l : List ℕ). printed.text ++ rest_of s (l ++ more) (next_number number) next)
+        (drop_all (ends row_kind row) (outer_record row_kind row) (omega (arith, record_length row_kind row)))
 
     still_ready : Ready f s.counts (given next)
     still_ready =
@@ -121,7 +119,8 @@ module _ (f : Forest ℕ) (w : Within f) where
 
   -- ---- row after row
 
-  rows_listed : (rows : List (List ℕ)) (number : ℕ) (k : Kept) → All (ValidRow f) rows → Ready f s.counts (given k) → rest_of s (row_records rows) number k ≡ lines_from number f k.flags k.cursors rows
+  rows_listed : (rows : List (List ℕ)) (number : ℕ) (k : Kept) → All (ValidRow f) rows → Ready f s.counts (given k)
+      → rest_of s (row_records rows) number k ≡ lines_from number f k.flags k.cursors rows
   unfolding rest_of rest_from row_records lines_from
   rows_listed [] number k valid ready = refl
   rows_listed (row ∷ rows) number k valid ready =

@@ -1,6 +1,5 @@
 -- The listing program's input of a tree and its leaf rows, and the lines of the direct walk. Definitions only.
-use Rattle.std.specs.Prelude.{ℕ, ◌+◌, List, [], ◌∷◌, ◌++◌, length, replicate}
-use Rattle.tree_kinds.specs.Kinds.{ascii}
+use Rattle.std.specs.Prelude.{ℕ, ◌+◌, List, [], ◌∷◌, ◌++◌, length, replicate, codes}
 use Rattle.tree.specs.Forest.{Forest, size}
 use Rattle.tree.specs.Bytes.{u16, bytes_of}
 use Rattle.walk.specs.Walk.{cells_in, walk}
@@ -45,4 +44,4 @@ example_input =
 
 -- "Whole output"
 abbrev pub example_output : List ℕ
-example_output = ascii "0 RSR 1 01\n1 S-S 0 02\n"
+example_output = codes "0 RSR 1 01\n1 S-S 0 02\n"

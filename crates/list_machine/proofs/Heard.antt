@@ -1,10 +1,5 @@
 -- However the input is cut into pieces, the machine prints the listing of the whole.
-use mathlib.Core.Path.{◌≡◌, refl, sym, ◌∙◌, ap}
-use mathlib.Core.Bool.{Bool, true, false}
-use mathlib.Core.List.{List, [], ◌∷◌, ◌++◌, append-nil, append_assoc}
-use Prim.Native.Nat.{ℕ, zero, suc, ◌+◌, ◌≤◌, ◌<◌}
-use native.Mathlib.Omega.{arith}
-use lib.ListN.{length, drop, length-append, length-drop}
+use Rattle.std.proofs.Common.{◌≡◌, refl, sym, ◌∙◌, ap, Bool, true, false, List, [], ◌∷◌, ◌++◌, append-nil, append_assoc, ℕ, zero, suc, ◌+◌, ◌≤◌, ◌<◌, length, drop, length-append, length-drop, arith}
 use Rattle.list_text.specs.Line.{bad_line, line_room}
 use Rattle.list_rows.specs.Listing.{storage_lent, at_first, listing}
 use Rattle.list_machine.specs.Begin.{Rooms, lengths_of, Began, begin_of}
@@ -24,13 +19,17 @@ after fuel m room bytes pieces b ended goes =
     ]
 
 module _ (m : Rooms) (lent : lengths_of m ≡ storage_lent) (room : ℕ) (wide : line_room ≤ room) where
-  pub heard_lists : (fuel : ℕ) (bytes : List ℕ) (pieces : List (List ℕ)) → length bytes + turns pieces + 1 < fuel → heard fuel m room bytes pieces ≡ listing (bytes ++ joined pieces)
+  pub heard_lists : (fuel : ℕ) (bytes : List ℕ) (pieces : List (List ℕ)) → length bytes + turns pieces + 1 < fuel
+      → heard fuel m room bytes pieces ≡ listing (bytes ++ joined pieces)
   unfolding heard turns joined
   heard_lists zero bytes pieces h = absurd (omega arith)
-  heard_lists (suc fuel) bytes pieces h = go (λ b p f. heard_lists fuel b p f) pieces h (begin_of m bytes).ended refl (begin_of m bytes).goes refl
+  heard_lists (suc fuel) bytes pieces h =
+      go (λ b p f. heard_lists fuel b p f) pieces h (begin_of m bytes).ended refl (begin_of m bytes).goes refl
     where
-      go : ((bytes : List ℕ) (pieces : List (List ℕ)) → length bytes + turns pieces + 1 < fuel → heard fuel m room bytes pieces ≡ listing (bytes ++ joined pieces))
-          → (pieces : List (List ℕ)) → length bytes + turns pieces + 1 < suc fuel → (ended : Bool) → (begin_of m bytes).ended ≡ ended → (goes : Bool) → (begin_of m bytes).goes ≡ goes
+      go : ((bytes : List ℕ) (pieces : List (List ℕ)) → length bytes + turns pieces + 1 < fuel
+          → heard fuel m room bytes pieces ≡ listing (bytes ++ joined pieces))
+          → (pieces : List (List ℕ)) → length bytes + turns pieces + 1 < suc fuel
+          → (ended : Bool) → (begin_of m bytes).ended ≡ ended → (goes : Bool) → (begin_of m bytes).goes ≡ goes
           → after fuel m room bytes pieces (begin_of m bytes) ended goes ≡ listing (bytes ++ joined pieces)
       go again pieces h true e goes g = sym (begin_ends m bytes (joined pieces) lent e)
       go again pieces h false e true g =

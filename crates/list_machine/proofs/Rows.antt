@@ -1,15 +1,10 @@
 -- However rows are cut into pieces, the machine prints what the rows of all pieces joined give.
-use mathlib.Core.Path.{◌≡◌, refl, sym, ◌∙◌, ap, subst}
-use mathlib.Core.Bool.{Bool, true, false, cond}
-use mathlib.Core.List.{List, [], ◌∷◌, ◌++◌, append-nil, append_assoc}
-use Prim.Native.Nat.{ℕ, zero, suc, ◌+◌, ◌-◌, ◌≤◌, ◌<◌}
-use native.Mathlib.Omega.{arith}
-use borrow.Author.Tests.{ltb-true, ltb-false, eqb-true, eqb-false}
-use lib.Dec.{eqb, ltb}
-use lib.ListN.{length, drop, length-append, length-drop}
+use Rattle.std.proofs.Common.{◌≡◌, refl, sym, ◌∙◌, ap, Bool, true, false, cond, List, [], ◌∷◌, ◌++◌, append-nil, append_assoc, ℕ, zero, suc, ◌+◌, ◌-◌, ◌≤◌, ◌<◌, eqb, ltb, length, drop}
+use Rattle.std.proofs.Common.{length-append, length-drop, ltb-true, ltb-false, eqb-true, arith}
+use Rattle.std.proofs.lemmas.Bool.{eqb-false}
 use Rattle.tick_check.specs.Check.{Stored}
 use Rattle.list_text.specs.declared.outer.Outer.TheVariants.{Cut}
-use Rattle.list_text.specs.Line.{bad_line, line_room}
+use Rattle.list_text.specs.Line.{line_room}
 use Rattle.list_text.specs.Outer.{outer_at}
 use Rattle.list_rows.specs.Rows.{Kept, Step, Run, waits, step_of, stopped, rows_from, rows_of}
 use Rattle.list_rows.specs.Listing.{rest_from, rest_of, left_after}
@@ -34,18 +29,22 @@ module _ (s : Stored) (room : ℕ) (bytes : List ℕ) where
     where
       go : (b : Bool) → ltb (room - length text) line_room ≡ b → (t : Bool) → (step_of s (drop read bytes) number k).goes ≡ t
           → read + (step_of s (drop read bytes) number k).read ≤ length bytes
-          → (let o = step_of s (drop read bytes) number k in Reads (read + o.read) (rows_from fuel s room bytes (text ++ o.text) (read + o.read) o.number o.kept))
+          → (let o = step_of s (drop read bytes) number k in
+          Reads (read + o.read) (rows_from fuel s room bytes (text ++ o.text) (read + o.read) o.number o.kept))
           → Reads read (rows_from (suc fuel) s room bytes text read number k)
-      go true e t g f r = subst (Reads read) (sym (turn_full fuel s room bytes text read number k (ltb-true _ _ e))) (record { on = omega arith; there = h })
-      go false e true g f r = subst (Reads read) (sym (turn_goes fuel s room bytes text read number k (ltb-false _ _ e) g)) (let i = r.on in record { on = omega arith; there = r.there })
-      go false e false g f r = subst (Reads read) (sym (turn_stops fuel s room bytes text read number k (ltb-false _ _ e) g)) (record { on = omega arith; there = f })
+      go true e t g f r = rw (turn_full fuel s room bytes text read number k (ltb-true _ _ e)) (record { on = omega arith; there = h })
+      go false e true g f r =
+          let on = r.on in
+          rw (turn_goes fuel s room bytes text read number k (ltb-false _ _ e) g) (record { on = omega arith; there = r.there })
+      go false e false g f r = rw (turn_stops fuel s room bytes text read number k (ltb-false _ _ e) g) (record { on = omega arith; there = f })
 
   pub run_reads : (number : ℕ) (k : Kept) → (rows_of s room bytes 0 number k).read ≤ length bytes
   unfolding rows_of
   run_reads number k = (reads (suc (length bytes)) [] 0 number k (omega arith)).there
 
   module _ (wide : line_room ≤ room) (number : ℕ) (k : Kept) where
-    cut_by : (t : Bool) → (step_of s bytes number k).goes ≡ t → (rows_of s room bytes 0 number k).ended ≡ false → (rows_of s room bytes 0 number k).read ≡ 0 → outer_at bytes 0 ≡ Cut
+    cut_by : (t : Bool) → (step_of s bytes number k).goes ≡ t → (rows_of s room bytes 0 number k).ended ≡ false
+        → (rows_of s room bytes 0 number k).read ≡ 0 → outer_at bytes 0 ≡ Cut
     unfolding rows_of step_of
     cut_by true g e z =
         let o = step_of s bytes number k in
@@ -63,7 +62,7 @@ module _ (s : Stored) (room : ℕ) (bytes : List ℕ) where
     pub run_cut : (rows_of s room bytes 0 number k).ended ≡ false → (rows_of s room bytes 0 number k).read ≡ 0 → outer_at bytes 0 ≡ Cut
     run_cut e z = cut_by (step_of s bytes number k).goes refl e z
 
-  step_waits : (number : ℕ) (k : Kept) → outer_at bytes 0 ≡ Cut → step_of s bytes number k ≡ waits number k
+  pub step_waits : (number : ℕ) (k : Kept) → outer_at bytes 0 ≡ Cut → step_of s bytes number k ≡ waits number k
   unfolding step_of
   step_waits number k e = waits_at s bytes number k (outer_at bytes 0) e
 
@@ -72,14 +71,15 @@ module _ (s : Stored) (room : ℕ) (bytes : List ℕ) where
   unfolding rows_of
   run_idle wide number k e =
       let w = step_waits number k e in
-      turn_stops (length bytes) s room bytes [] 0 number k (omega arith) (ap (λ (o : Step). o.goes) w) ∙ (λ i. stopped (w i).text (0 + (w i).read) (w i).number (w i).ended (w i).kept)
+      turn_stops (length bytes) s room bytes [] 0 number k (omega arith) (ap (λ (o : Step). o.goes) w)
+      ∙ (λ i. stopped (w i).text (0 + (w i).read) (w i).number (w i).ended (w i).kept)
 
 -- if nothing more comes, the bytes at hand are a record cut short, or none
-rest_idle : (s : Stored) (number : ℕ) (k : Kept) (bytes : List ℕ) → step_of s bytes number k ≡ waits number k → rest_of s bytes number k ≡ ended_line bytes
+pub rest_idle : (s : Stored) (number : ℕ) (k : Kept) (bytes : List ℕ) → step_of s bytes number k ≡ waits number k
+    → rest_of s bytes number k ≡ ended_line bytes
 unfolding rest_of rest_from ended_line
 rest_idle s number k [] w = refl
-rest_idle s number k (x ∷ xs) w =
-    λ i. elim (w i).goes as (λ _. List ℕ) [ true ↦ (w i).text ++ rest_from (length xs) s (drop (w i).read (x ∷ xs)) (w i).number (w i).kept | false ↦ elim (w i).ended as (λ _. List ℕ) [ true ↦ (w i).text | false ↦ bad_line ] ]
+rest_idle s number k (x ∷ xs) w = rw (rest_of, rest_from, w, w)
 
 -- ---- piece after piece
 
@@ -104,21 +104,24 @@ module _ (s : Stored) (room : ℕ) (wide : line_room ≤ room) where
   rows_heard_lem zero bytes pieces number k h = absurd (omega arith)
   rows_heard_lem (suc fuel) bytes pieces number k h =
       let r = rows_of s room bytes 0 number k in
-      ap (λ (l : List ℕ). r.text ++ l) (go (λ b p n q f. rows_heard_lem fuel b p n q f) pieces h r.ended refl (eqb r.read 0) refl) ∙ sym (seamless s room bytes (joined pieces) 0 number k)
+      ap (λ (l : List ℕ). r.text ++ l) (go (λ b p n q f. rows_heard_lem fuel b p n q f) pieces h r.ended refl (eqb r.read 0) refl)
+      ∙ sym (seamless s room bytes (joined pieces) 0 number k)
     where
-      go : ((bytes : List ℕ) (pieces : List (List ℕ)) (number : ℕ) (k : Kept) → length bytes + turns pieces < fuel → rows_heard fuel s room bytes pieces number k ≡ rest_of s (bytes ++ joined pieces) number k)
-          → (pieces : List (List ℕ)) → length bytes + turns pieces < suc fuel → (ended : Bool) → (rows_of s room bytes 0 number k).ended ≡ ended → (none : Bool) → eqb (rows_of s room bytes 0 number k).read 0 ≡ none
-          → (let r = rows_of s room bytes 0 number k in after fuel s room bytes pieces r ended none ≡ cond ended [] (rest_of s (drop r.read bytes ++ joined pieces) r.number r.kept))
+      go : ((bytes : List ℕ) (pieces : List (List ℕ)) (number : ℕ) (k : Kept) → length bytes + turns pieces < fuel
+          → rows_heard fuel s room bytes pieces number k ≡ rest_of s (bytes ++ joined pieces) number k)
+          → (pieces : List (List ℕ)) → length bytes + turns pieces < suc fuel
+          → (ended : Bool) → (rows_of s room bytes 0 number k).ended ≡ ended → (none : Bool) → eqb (rows_of s room bytes 0 number k).read 0 ≡ none
+          → (let r = rows_of s room bytes 0 number k in
+          after fuel s room bytes pieces r ended none ≡ cond ended [] (rest_of s (drop r.read bytes ++ joined pieces) r.number r.kept))
       go again pieces h true e none z = refl
       go again pieces h false e false z =
           let r = rows_of s room bytes 0 number k in
-          let n : (r.read ≡ 0 → ⊥) = eqb-false _ _ z in
-          let t = run_reads s room bytes number k in
+          let some : (r.read ≡ 0 → ⊥) = eqb-false _ _ z in
+          let there = run_reads s room bytes number k in
           again (drop r.read bytes) pieces r.number r.kept (omega (arith, length-drop r.read bytes))
       go again [] h false e true z =
-          let c = run_cut s room bytes wide number k e (eqb-true _ _ z) in
-          let q = run_idle s room bytes wide number k c in
-          sym ((λ i. rest_of s (drop (q i).read bytes ++ []) (q i).number (q i).kept) ∙ ap (λ (l : List ℕ). rest_of s l number k) (append-nil bytes) ∙ rest_idle s number k bytes (step_waits s room bytes number k c))
+          let cut = run_cut s room bytes wide number k e (eqb-true _ _ z) in
+          rw (run_idle s room bytes wide number k cut, append-nil bytes, rest_idle s number k bytes (step_waits s room bytes number k cut))
       go again (piece ∷ rest) h false e true z =
           let r = rows_of s room bytes 0 number k in
           again (bytes ++ piece) rest r.number r.kept (omega (arith, length-append bytes piece))

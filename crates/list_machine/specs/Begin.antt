@@ -1,8 +1,8 @@
 -- The listing program at the front of its input: the record that holds the tree. Definitions only.
-use Rattle.std.specs.Prelude.{ℕ, ◌-◌, Bool, true, false, cond, List, [], eqb, length, take, drop, Float}
+use Rattle.std.specs.Prelude.{ℕ, ◌-◌, Bool, true, false, cond, List, [], eqb, length, take, drop, Float, Ok, Err}
 use Rattle.tree_record.specs.Refusal.{number_of}
 use Rattle.wire.specs.declared.Counts.{Counts}
-use Rattle.compile.specs.declared.Compiled.{Compiled}
+use Rattle.compile.specs.Answer.{Compiled}
 use Rattle.compile.specs.Compile.{Lent, lent, Outcome, compile_of}
 use Rattle.lower_emit.specs.Settle.{zeros, zeros32}
 use Rattle.list_text.specs.declared.outer.Outer.{Outer}
@@ -24,11 +24,21 @@ pub record Rooms : Type 0 where
 
 abbrev pub rooms : List ℕ → List Float → List ℕ → List Float → List ℕ → List Float → List ℕ → List Float → Rooms
 rooms nums biases wires coefs work_nums work_biases work_wires work_coefs =
-    record { nums = nums; biases = biases; wires = wires; coefs = coefs; work_nums = work_nums; work_biases = work_biases; work_wires = work_wires; work_coefs = work_coefs }
+    record {
+      nums = nums;
+      biases = biases;
+      wires = wires;
+      coefs = coefs;
+      work_nums = work_nums;
+      work_biases = work_biases;
+      work_wires = work_wires;
+      work_coefs = work_coefs;
+    }
 
 abbrev pub lengths_of : Rooms → Lent
 lengths_of m =
-    lent (length m.nums) (length m.biases) (length m.wires) (length m.coefs) (length m.work_nums) (length m.work_biases) (length m.work_wires) (length m.work_coefs)
+    lent (length m.nums) (length m.biases) (length m.wires) (length m.coefs)
+    (length m.work_nums) (length m.work_biases) (length m.work_wires) (length m.work_coefs)
 
 -- what compiling leaves in them
 abbrev pub compiled_in : Rooms → Outcome → Rooms
@@ -58,8 +68,8 @@ spoils m = record { text = bad_line; read = 0; goes = false; ended = true; count
 
 -- "A refusal prints `refused NO at PLACE` and ends the run"
 unfoldable pub begin_compiled : Compiled → ℕ → Rooms → Began
-begin_compiled (Compiled.Accepted n) end m = record { text = []; read = end; goes = true; ended = false; counts = n; left = m }
-begin_compiled (Compiled.Refused r) end m =
+begin_compiled (Ok n) end m = record { text = []; read = end; goes = true; ended = false; counts = n; left = m }
+begin_compiled (Err r) end m =
     record { text = refused_line (number_of r.cause) r.place; read = end; goes = false; ended = true; counts = no_counts; left = m }
 
 unfoldable pub begin_tree : List ℕ → ℕ → Rooms → Began

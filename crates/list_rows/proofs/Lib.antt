@@ -4,6 +4,5 @@ pub mod Going
 pub mod Grown
 pub mod Lending
 pub mod Seamless
-pub mod Shown
 pub mod Steps
 pub mod Turns

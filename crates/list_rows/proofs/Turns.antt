@@ -1,6 +1,6 @@
 -- What a step prints fits and what it reads is there; the three ways through a turn.
 use Rattle.std.proofs.Common.{◌≡◌, ℕ, suc, ◌+◌, ◌-◌, ◌<◌, ◌≤◌, Bool, true, false, cond, eqb, List, ◌++◌, length, take, drop, arith, le-ltb, lt-ltb}
-use mathlib.Core.Bool.{false≢true}
+use Rattle.std.proofs.lemmas.Bool.{false≢true}
 use Rattle.tick_check.specs.Check.{Stored}
 use Rattle.tick_lane.specs.Lane.{Outcome, accepted, number_of, place_of}
 use Rattle.list_text.specs.declared.outer.Outer.{Outer}
@@ -48,11 +48,13 @@ module _ (fuel : ℕ) (s : Stored) (room : ℕ) (bytes text : List ℕ) (read nu
   turn_full h = rw (lt-ltb (room - length text) line_room h, rows_from)
 
   pub turn_goes : line_room ≤ room - length text → (step_of s (drop read bytes) number k).goes ≡ true
-      → rows_from (suc fuel) s room bytes text read number k ≡ (let o = step_of s (drop read bytes) number k in rows_from fuel s room bytes (text ++ o.text) (read + o.read) o.number o.kept)
+      → rows_from (suc fuel) s room bytes text read number k
+      ≡ (let o = step_of s (drop read bytes) number k in rows_from fuel s room bytes (text ++ o.text) (read + o.read) o.number o.kept)
   unfolding rows_from
   turn_goes h g = rw (le-ltb (room - length text) line_room h, g, rows_from)
 
   pub turn_stops : line_room ≤ room - length text → (step_of s (drop read bytes) number k).goes ≡ false
-      → rows_from (suc fuel) s room bytes text read number k ≡ (let o = step_of s (drop read bytes) number k in stopped (text ++ o.text) (read + o.read) o.number o.ended o.kept)
+      → rows_from (suc fuel) s room bytes text read number k
+      ≡ (let o = step_of s (drop read bytes) number k in stopped (text ++ o.text) (read + o.read) o.number o.ended o.kept)
   unfolding rows_from
   turn_stops h g = rw (le-ltb (room - length text) line_room h, g, rows_from)

@@ -1,11 +1,11 @@
 -- The listing program as a function of its input: what it prints, whole. Definitions only.
-use Rattle.std.specs.Prelude.{ℕ, zero, suc, ◌+◌, ◌-◌, ◌*◌, true, false, cond, List, [], ◌∷◌, ◌++◌, length, take, drop, replicate, ◌==◌}
+use Rattle.std.specs.Prelude.{ℕ, zero, suc, ◌+◌, ◌-◌, ◌*◌, true, false, cond, List, [], ◌∷◌, ◌++◌, length, take, drop, replicate, ◌==◌, Ok, Err}
 use Rattle.exact.specs.Whole.{zero32}
 use Rattle.tree_record.specs.Refusal.{number_of}
 use Rattle.wire.specs.declared.Counts.{Counts}
 use Rattle.wire.specs.Storage.{ops_from, nums_per_op, op_biases_from, biases_per_op}
 use Rattle.tick_check.specs.Check.{Stored, stored}
-use Rattle.compile.specs.declared.Compiled.{Compiled}
+use Rattle.compile.specs.Answer.{Compiled}
 use Rattle.compile.specs.Compile.{Lent, lent, Outcome, compile_of}
 use Rattle.list_text.specs.declared.outer.Outer.{Outer}
 use Rattle.list_text.specs.declared.outer.Outer.TheVariants.{Whole, Cut, Bad}
@@ -57,8 +57,8 @@ at_first n = record { flags = replicate n.nodes 0; cursors = replicate n.cursors
 
 -- the tree is compiled; a refusal ends the run
 unfoldable pub list_from : Compiled → Outcome → List ℕ → List ℕ
-list_from (Compiled.Accepted n) o rows = rest_of (stored n o.nums o.biases o.wires o.coefs) rows 0 (at_first n)
-list_from (Compiled.Refused r) o rows = refused_line (number_of r.cause) r.place
+list_from (Ok n) o rows = rest_of (stored n o.nums o.biases o.wires o.coefs) rows 0 (at_first n)
+list_from (Err r) o rows = refused_line (number_of r.cause) r.place
 
 -- "one of kind 0x0101 holding the tree, then kind 0x0100 records holding leaf rows"
 abbrev pub tree_kind : ℕ

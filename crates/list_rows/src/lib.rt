@@ -3,5 +3,7 @@
 
 mod row;
 mod rows;
+mod state;
 
 pub use rows::{Run, list_rows};
+pub use state::State;

@@ -1,111 +1,113 @@
 // One leaf row: the tick, and its line or its refusal.
-ghost use Rattle.std.specs.Prelude.{◌≡◌, length, take};
-ghost use Rattle.tick_check.specs.Check.{stored};
+ghost use Rattle.std.specs.Prelude.{◌≡◌, take, length};
 ghost use Rattle.text.specs.Text.{placed};
-ghost use Rattle.list_text.specs.Line.{line_of};
+ghost use Rattle.tick_check.specs.Check.{stored_in};
+ghost use Rattle.tick_lane.specs.Lane.{outcome};
+ghost use Rattle.tick.specs.Tick.{tick_of};
 ghost use Rattle.list_rows.specs.Rows.{row_of};
-ghost use Rattle.list_rows.specs.Left.{kept, RowLeft};
+ghost use Rattle.list_rows.specs.Left.{kept_in, with_outputs, no_outputs, line_within, LentAs, RowLeft};
 
-use list_text::{write_line, write_refused};
+use crate::state::{Next, State};
+use list_text::{TickLine, write_line, write_refused};
+use tick::tick;
+use tick_lane::{Lane, TickError};
 use tick_refusal::of_ticked;
-use wire::Counts;
+use wire::{Circuit, Counts};
 
-// How much was written, and whether the run goes on.
+// Room for what a tick tells of a circuit's nodes and leaves, 128 at most.
+#[derive(Drop)]
+struct Outputs {
+    statuses: [u8; 128],
+    halts: [u8; 128],
+    edges: [u8; 128],
+}
+
+impl Outputs {
+    fn new() -> Outputs
+        ensures { result ≡ no_outputs }
+    {
+        Outputs {
+            statuses: [0; 128],
+            halts: [0; 128],
+            edges: [0; 128],
+        }
+    }
+}
+
+// How much was written, and what follows.
 #[derive(Clone, Copy)]
 pub(crate) struct Row {
     pub(crate) wrote: usize,
-    pub(crate) goes: bool,
+    pub(crate) next: Next,
 }
 
+#[tactic(auto, unfolding(crate::specs::Rows::row_of, crate::specs::Rows::text_after, crate::specs::Rows::ticked_from))]
 pub(crate) fn list_row(
     out: &mut [u8],
     number: u64,
-    counts: Counts,
-    nums: &[u32],
-    biases: &[f32],
-    wires: &[u32],
-    coefs: &[f32],
+    circuit: &Circuit,
     row: &[u8],
-    flags: &mut [u8],
-    cursors: &mut [u32],
-    values: &mut [f32],
+    state: &mut State,
 ) -> Row
-    ensures { RowLeft (row_of (stored counts nums.now biases.now wires.now coefs.now) row.now number (kept flags.old cursors.old values.old)) out.old
-        result.wrote result.goes (kept flags.new cursors.new values.new) out.new }
+    ensures lent { LentAs state.old state.new }
+    ensures left { RowLeft (row_of (stored_in circuit.now) row.now number (kept_in state.old)) out.old
+        result (kept_in state.new) out.new }
 {
-    let mut statuses = [0u8; 128];
-    let mut halts = [0u8; 128];
-    let mut edges = [0u8; 128];
-    let answer = tick::tick(
-        counts,
-        nums,
-        biases,
-        wires,
-        coefs,
-        row,
-        flags,
-        cursors,
-        values,
-        &mut statuses,
-        &mut halts,
-        &mut edges,
-    );
-    let told = of_ticked(answer);
-    let refused = told.number;
-    let place = told.place;
-    if refused != 0 {
-        let wrote = write_refused(out, refused as u64, place as u64);
+    let mut outputs = Outputs::new();
+    let answer = tick_state(circuit, row, state, &mut outputs);
+    if answer.is_err() {
+        let told = of_ticked(answer);
         return Row {
-            wrote: wrote,
-            goes: false,
+            wrote: write_refused(out, u64::from(told.number), told.place as u64),
+            next: Next::Ended,
         };
     }
-    let wrote = show_tick(
-        out,
-        number,
-        counts.nodes,
-        counts.leaves,
-        &statuses,
-        &halts,
-        cursors,
-        &edges,
-    );
     Row {
-        wrote: wrote,
-        goes: true,
+        wrote: show_tick(out, number, circuit.counts, state, &outputs),
+        next: Next::Goes,
     }
 }
 
-// The line of a tick, out of the first so many statuses, halts and edges.
-fn show_tick(
-    out: &mut [u8],
-    number: u64,
-    nodes: usize,
-    leaves: usize,
-    statuses: &[u8],
-    halts: &[u8],
-    cursors: &[u32],
-    edges: &[u8],
-) -> usize
-    ensures { (result ≡ length (line_of number (take nodes statuses.now) (take nodes halts.now) cursors.now (take leaves edges.now)))
-        × (out.new ≡ placed (line_of number (take nodes statuses.now) (take nodes halts.now) cursors.now (take leaves edges.now)) out.old) }
+// A tick from the state, into the outputs.
+fn tick_state(
+    circuit: &Circuit,
+    row: &[u8],
+    state: &mut State,
+    outputs: &mut Outputs,
+) -> Result<(), TickError>
+    ensures lent { LentAs state.old state.new }
+    ensures ticked { outcome result (with_outputs (kept_in state.new) outputs.new)
+        ≡ tick_of (stored_in circuit.now) row.now (with_outputs (kept_in state.old) outputs.old) }
 {
-    write_line(
-        out,
+    let mut lane = Lane {
+        flags: &mut *state.flags,
+        cursors: &mut *state.cursors,
+        values: &mut *state.values,
+        statuses: &mut outputs.statuses,
+        halts: &mut outputs.halts,
+        edges: &mut outputs.edges,
+    };
+    tick(circuit, row, &mut lane)
+}
+
+// A tick's line: of as many nodes and leaves as there are.
+fn show_tick(out: &mut [u8], number: u64, counts: Counts, state: &State, outputs: &Outputs) -> usize
+    ensures value { result ≡ length (line_within counts number (with_outputs (kept_in state.now) outputs.now)) }
+    ensures out_after { out.new ≡ placed (line_within counts number (with_outputs (kept_in state.now) outputs.now)) out.old }
+{
+    let tick = TickLine {
         number,
-        first_of(statuses, nodes),
-        first_of(halts, nodes),
-        cursors,
-        first_of(edges, leaves),
-    )
+        statuses: first_of(&outputs.statuses, counts.nodes),
+        halts: first_of(&outputs.halts, counts.nodes),
+        cursors: &*state.cursors,
+        edges: first_of(&outputs.edges, counts.leaves),
+    };
+    write_line(out, &tick)
 }
 
 // The first so many entries, or all where there are fewer.
 fn first_of(list: &[u8], n: usize) -> &[u8]
     ensures { result.now ≡ take n list.now }
 {
-    if n < list.len() {
-        return &list[..n];
-    }
-    list
+    list.get(..n).unwrap_or(list)
 }

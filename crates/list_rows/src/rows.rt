@@ -1,12 +1,13 @@
 // Row after row.
 ghost use Rattle.std.specs.Prelude.{◌≡◌, ◌≤◌, length, take, drop};
-ghost use Rattle.tick_check.specs.Check.{stored};
-ghost use Rattle.list_rows.specs.Rows.{Kept, step_of, breaks, rows_of};
-ghost use Rattle.list_rows.specs.Left.{kept, StepLeft, RunLeft};
+ghost use Rattle.tick_check.specs.Check.{stored_in};
+ghost use Rattle.list_rows.specs.Rows.{step_of, rows_of};
+ghost use Rattle.list_rows.specs.Left.{kept_in, LentAs, StepLeft, RunLeft};
 
 use crate::row::list_row;
-use list_text::{Line, Outer, outer_at, write_bad};
-use wire::Counts;
+use crate::state::{Next, State};
+use list_text::{LINE_ROOM, Outer, outer_at, write_bad};
+use wire::Circuit;
 
 // What became of the record that stands first.
 #[derive(Clone, Copy)]
@@ -14,8 +15,7 @@ pub(crate) struct Step {
     pub(crate) read: usize,
     pub(crate) wrote: usize,
     pub(crate) number: u64,
-    pub(crate) goes: bool,
-    pub(crate) ended: bool,
+    pub(crate) next: Next,
 }
 
 // How far the bytes were read, how much was written, the next tick's number, and whether the run has ended.
@@ -34,157 +34,96 @@ pub fn list_rows(
     from: usize,
     out: &mut [u8],
     number: u64,
-    counts: Counts,
-    nums: &[u32],
-    biases: &[f32],
-    wires: &[u32],
-    coefs: &[f32],
-    flags: &mut [u8],
-    cursors: &mut [u32],
-    values: &mut [f32],
+    circuit: &Circuit,
+    state: &mut State,
 ) -> Run
-    ensures { RunLeft (rows_of (stored counts nums.now biases.now wires.now coefs.now) (length out.old) bytes.now from number (kept flags.old cursors.old values.old)) out.old
-        result.read result.wrote result.number result.ended (kept flags.new cursors.new values.new) out.new }
+    ensures lent { LentAs state.old state.new }
+    ensures left { RunLeft (rows_of (stored_in circuit.now) (length out.old) bytes.now from number (kept_in state.old)) out.old
+        result (kept_in state.new) out.new }
 {
-    let mut at = from;
-    let mut done: usize = 0;
-    let mut tick = number;
-    while Line::ROOM <= out.len() - done {
-        let step = step_into(
-            bytes, at, out, done, tick, counts, nums, biases, wires, coefs, flags, cursors, values,
-        );
-        at += step.read;
-        done += step.wrote;
-        tick = step.number;
-        if !step.goes {
-            return Run {
-                read: at,
-                wrote: done,
-                number: tick,
-                ended: step.ended,
-            };
+    let mut run = Run {
+        read: from,
+        wrote: 0,
+        number,
+        ended: false,
+    };
+    // A `while`, since how many rows there are is what the bytes say.
+    while LINE_ROOM <= out.len() - run.wrote {
+        let step = step_into(bytes, run.read, out, run.wrote, run.number, circuit, state);
+        run.read += step.read;
+        run.wrote += step.wrote;
+        run.number = step.number;
+        match step.next {
+            Next::Goes => {}
+            Next::Waits => return run,
+            Next::Ended => {
+                run.ended = true;
+                return run;
+            }
         }
     }
-    Run {
-        read: at,
-        wrote: done,
-        number: tick,
-        ended: false,
-    }
+    run
 }
 
 // The record that stands at a position, printed from another position on.
+#[tactic(auto, using(crate::proofs::Lending::rest_back, std::proofs::lemmas::Slice::overwrites))]
 fn step_into(
     bytes: &[u8],
     at: usize,
     out: &mut [u8],
     done: usize,
     number: u64,
-    counts: Counts,
-    nums: &[u32],
-    biases: &[f32],
-    wires: &[u32],
-    coefs: &[f32],
-    flags: &mut [u8],
-    cursors: &mut [u32],
-    values: &mut [f32],
+    circuit: &Circuit,
+    state: &mut State,
 ) -> Step
     requires { done ≤ length out.old }
-    ensures step_left { StepLeft (step_of (stored counts nums.now biases.now wires.now coefs.now) (drop at bytes.now) number (kept flags.old cursors.old values.old)) (drop done out.old)
-        result.read result.wrote result.number result.goes result.ended (kept flags.new cursors.new values.new) (drop done out.new) }
-    ensures out_unchanged { take done out.new ≡ take done out.old }
+    ensures lent { LentAs state.old state.new }
+    ensures left { StepLeft (step_of (stored_in circuit.now) (drop at bytes.now) number (kept_in state.old)) (drop done out.old)
+        result (kept_in state.new) (drop done out.new) }
+    ensures before { take done out.new ≡ take done out.old }
 {
-    list_step(
-        rest_of(bytes, at),
-        &mut out[done..],
-        number,
-        counts,
-        nums,
-        biases,
-        wires,
-        coefs,
-        flags,
-        cursors,
-        values,
-    )
+    let rest = bytes.get(at..).unwrap_or(&[]);
+    list_step(rest, &mut out[done..], number, circuit, state)
 }
 
 // The record that stands first in the bytes.
+#[tactic(auto, using(crate::proofs::Steps::whole_lies), unfolding(crate::specs::Rows::step_of, crate::specs::Rows::step_at))]
 fn list_step(
     bytes: &[u8],
     out: &mut [u8],
     number: u64,
-    counts: Counts,
-    nums: &[u32],
-    biases: &[f32],
-    wires: &[u32],
-    coefs: &[f32],
-    flags: &mut [u8],
-    cursors: &mut [u32],
-    values: &mut [f32],
+    circuit: &Circuit,
+    state: &mut State,
 ) -> Step
-    ensures { StepLeft (step_of (stored counts nums.now biases.now wires.now coefs.now) bytes.now number (kept flags.old cursors.old values.old)) out.old
-        result.read result.wrote result.number result.goes result.ended (kept flags.new cursors.new values.new) out.new }
+    ensures lent { LentAs state.old state.new }
+    ensures left { StepLeft (step_of (stored_in circuit.now) bytes.now number (kept_in state.old)) out.old
+        result (kept_in state.new) out.new }
 {
-    let found = outer_at(bytes, 0);
-    match found {
-        Outer::Bad => broken(out, number),
-        Outer::Cut => Step {
-            read: 0,
-            wrote: 0,
-            number: number,
-            goes: false,
-            ended: false,
-        },
-        Outer::Whole { kind, start, end } => {
-            if kind != 0x0100 {
-                return broken(out, number);
-            }
-            let row = list_row(
-                out,
-                number,
-                counts,
-                nums,
-                biases,
-                wires,
-                coefs,
-                &bytes[start..end],
-                flags,
-                cursors,
-                values,
-            );
-            let goes = row.goes;
+    match outer_at(bytes, 0) {
+        Outer::Whole {
+            kind: 0x0100,
+            start,
+            end,
+        } => {
+            let row = list_row(out, number, circuit, &bytes[start..end], state);
             Step {
                 read: end,
                 wrote: row.wrote,
-                number: std::num::wrapping_add_u64(number, 1),
-                goes: goes,
-                ended: !goes,
+                number: number.wrapping_add(1),
+                next: row.next,
             }
         }
+        Outer::Cut => Step {
+            read: 0,
+            wrote: 0,
+            number,
+            next: Next::Waits,
+        },
+        Outer::Whole { .. } | Outer::Bad => Step {
+            read: 0,
+            wrote: write_bad(out),
+            number,
+            next: Next::Ended,
+        },
     }
-}
-
-// A bad record.
-fn broken(out: &mut [u8], number: u64) -> Step
-    ensures { (k : Kept) → StepLeft (breaks number k) out.old result.read result.wrote result.number result.goes result.ended k out.new }
-{
-    let wrote = write_bad(out);
-    Step {
-        read: 0,
-        wrote: wrote,
-        number: number,
-        goes: false,
-        ended: true,
-    }
-}
-
-// The bytes from a position on.
-fn rest_of(bytes: &[u8], at: usize) -> &[u8]
-    ensures { result.now ≡ drop at bytes.now }
-{
-    if at <= bytes.len() {
-        return &bytes[at..];
-    }
-    &bytes[0..0]
 }

@@ -1,7 +1,7 @@
 -- The lines that the listing program prints, as bytes. Definitions only.
-use Rattle.std.specs.Prelude.{ℕ, ◌+◌, ◌%◌, Bool, cond, ◌&&◌, List, [], ◌∷◌, ◌++◌, map, eqb, leb, length}
-use Rattle.tree_kinds.specs.Kinds.{ascii}
+use Rattle.std.specs.Prelude.{ℕ, ◌+◌, ◌%◌, Bool, cond, ◌&&◌, List, [], ◌∷◌, ◌++◌, map, eqb, leb, length, codes}
 use Rattle.text.specs.Text.{decimal}
+use Rattle.list_text.specs.declared.TickLine.{TickLine}
 
 -- "one character a node (S, F, R, `h` halted, `-` neither)", of its status and of whether it was halted
 unfoldable pub mark : ℕ → ℕ → ℕ
@@ -17,11 +17,11 @@ marks (status ∷ statuses) (halt ∷ halts) = mark status halt ∷ marks status
 -- a comma and a number, again and again
 unfoldable pub more : List ℕ → List ℕ
 more [] = []
-more (cursor ∷ cursors) = ascii "," ++ decimal cursor ++ more cursors
+more (cursor ∷ cursors) = codes "," ++ decimal cursor ++ more cursors
 
 -- "cursors joined by commas, or `-` if there are none"
 unfoldable pub cursor_field : List ℕ → List ℕ
-cursor_field [] = ascii "-"
+cursor_field [] = codes "-"
 cursor_field (cursor ∷ cursors) = decimal cursor ++ more cursors
 
 -- an edge is 0, 1 or 2; of any other number, its last digit
@@ -30,16 +30,16 @@ digit edge = 48 + edge % 10
 
 -- "one edge digit a leaf, or `-`"
 unfoldable pub edge_field : List ℕ → List ℕ
-edge_field [] = ascii "-"
+edge_field [] = codes "-"
 edge_field (edge ∷ edges) = map digit (edge ∷ edges)
 
 unfoldable pub front : ℕ → List ℕ → List ℕ → List ℕ
-front number statuses halts = decimal number ++ ascii " " ++ marks statuses halts ++ ascii " "
+front number statuses halts = decimal number ++ codes " " ++ marks statuses halts ++ codes " "
 
 -- "Each tick prints tick number from 0; .. Fields are parted by one space."
 unfoldable pub tick_line : ℕ → List ℕ → List ℕ → List ℕ → List ℕ → List ℕ
 tick_line number statuses halts cursors edges =
-    front number statuses halts ++ cursor_field cursors ++ ascii " " ++ edge_field edges ++ ascii "\n"
+    front number statuses halts ++ cursor_field cursors ++ codes " " ++ edge_field edges ++ codes "\n"
 
 -- a tree has at most 128 nodes, and so no more cursors or leaves; of longer lists there is no line
 abbrev pub most : ℕ
@@ -51,13 +51,20 @@ listable statuses cursors edges = leb (length statuses) most && (leb (length cur
 unfoldable pub line_of : ℕ → List ℕ → List ℕ → List ℕ → List ℕ → List ℕ
 line_of number statuses halts cursors edges = cond (listable statuses cursors edges) (tick_line number statuses halts cursors edges) []
 
+-- the same of what code holds
+abbrev pub shown : TickLine → List ℕ
+shown t = tick_line t.number t.statuses.now t.halts.now t.cursors.now t.edges.now
+
+abbrev pub line_in : TickLine → List ℕ
+line_in t = line_of t.number t.statuses.now t.halts.now t.cursors.now t.edges.now
+
 -- "A refusal prints `refused NO at PLACE`"
 unfoldable pub refused_line : ℕ → ℕ → List ℕ
-refused_line number place = ascii "refused " ++ decimal number ++ ascii " at " ++ decimal place ++ ascii "\n"
+refused_line number place = codes "refused " ++ decimal number ++ codes " at " ++ decimal place ++ codes "\n"
 
 -- "prints `bad record`"
 abbrev pub bad_line : List ℕ
-bad_line = ascii "bad record\n"
+bad_line = codes "bad record\n"
 
 -- Room that any line fits into: 20 digits, 128 marks, 128 cursors of at most 20 digits with a comma each, 128 edges, three spaces and the line
 -- feed are 2,968 bytes.

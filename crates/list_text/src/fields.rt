@@ -1,45 +1,44 @@
 // The fields of a line, each put after what stands there.
-ghost use Rattle.std.specs.Prelude.{◌≡◌, ◌+◌, ◌*◌, ◌≤◌, ◌++◌, map, length, take, drop, get_or};
-ghost use Rattle.text.specs.Text.{Appended};
-ghost use Rattle.list_text.specs.Line.{mark, marks, more, cursor_field, digit, edge_field, front, tick_line, refused_line};
+ghost use Rattle.std.specs.Prelude.{◌≡◌, ◌+◌, ◌*◌, ◌≤◌, ◌++◌, map, length, take, get_or};
+ghost use Rattle.list_text.specs.Line.{mark, marks, more, cursor_field, digit, edge_field, front, shown, refused_line};
 
+use crate::{LINE_ROOM, MOST, TickLine};
 use text::{append, append_decimal};
 
 // A tick's line, at the front.
-pub(crate) fn spell(
-    line: &mut [u8],
-    number: u64,
-    statuses: &[u8],
-    halts: &[u8],
-    cursors: &[u32],
-    edges: &[u8],
-) -> usize
-    requires in_bounds { 3072 ≤ length line.old }
-    requires statuses_len_bound { (length statuses.now ≤ 128) × (length cursors.now ≤ 128) × (length edges.now ≤ 128) }
-    ensures { (take result line.new ≡ tick_line number statuses.now halts.now cursors.now edges.now) × (result ≤ 3072) }
+#[tactic(auto, unfolding(crate::specs::Line::tick_line))]
+pub(crate) fn spell(line: &mut [u8], tick: &TickLine) -> usize
+    requires room { LINE_ROOM ≤ length line.old }
+    requires few { (length tick.now.statuses.now ≤ MOST) × (length tick.now.cursors.now ≤ MOST) × (length tick.now.edges.now ≤ MOST) }
+    ensures text { take result line.new ≡ shown tick.now }
+    ensures limit { result ≤ LINE_ROOM }
 {
-    let second = spell_front(line, number, statuses, halts);
-    let joined = append_cursors(line, second, cursors);
+    let second = spell_front(line, tick);
+    let joined = append_cursors(line, second, tick.cursors);
     let third = append(line, joined, b" ");
-    let edged = append_edges(line, third, edges);
+    let edged = append_edges(line, third, tick.edges);
     append(line, edged, b"\n")
 }
 
 // The number and the marks, each with the space after it.
-fn spell_front(line: &mut [u8], number: u64, statuses: &[u8], halts: &[u8]) -> usize
-    requires { length statuses.now + 22 ≤ length line.old }
-    ensures { (take result line.new ≡ front number statuses.now halts.now) × (result ≤ length statuses.now + 22) }
+#[tactic(auto, unfolding(crate::specs::Line::front))]
+fn spell_front(line: &mut [u8], tick: &TickLine) -> usize
+    requires { length tick.now.statuses.now + 22 ≤ length line.old }
+    ensures text { take result line.new ≡ front tick.now.number tick.now.statuses.now tick.now.halts.now }
+    ensures limit { result ≤ length tick.now.statuses.now + 22 }
 {
-    let numbered = append_decimal(line, 0, number);
+    let numbered = append_decimal(line, 0, tick.number);
     let first = append(line, numbered, b" ");
-    let marked = append_marks(line, first, statuses, halts);
+    let marked = append_marks(line, first, tick.statuses, tick.halts);
     append(line, marked, b" ")
 }
 
 // `refused NO at PLACE`, at the front.
+#[tactic(auto, unfolding(crate::specs::Line::refused_line))]
 pub(crate) fn spell_refused(line: &mut [u8], number: u64, place: u64) -> usize
     requires { 53 ≤ length line.old }
-    ensures { (take result line.new ≡ refused_line number place) × (result ≤ 53) }
+    ensures text { take result line.new ≡ refused_line number place }
+    ensures limit { result ≤ 53 }
 {
     let refused = append(line, 0, b"refused ");
     let numbered = append_decimal(line, refused, number);
@@ -49,85 +48,75 @@ pub(crate) fn spell_refused(line: &mut [u8], number: u64, place: u64) -> usize
 }
 
 // One character a node.
+#[tactic(auto, unfolding(crate::specs::Line::marks))]
 fn append_marks(line: &mut [u8], at: usize, statuses: &[u8], halts: &[u8]) -> usize
     requires { at + length statuses.now ≤ length line.old }
-    ensures { (take result line.new ≡ take at line.old ++ marks statuses.now halts.now) × (result ≡ at + length statuses.now) }
+    ensures text { take result line.new ≡ take at line.old ++ marks statuses.now halts.now }
+    ensures next { result ≡ at + length statuses.now }
 {
-    let mut i: usize = 0;
-    while i < statuses.len() {
-        line[at + i] = mark_of(statuses[i], entry(halts, i));
-        i += 1;
+    for (i, status) in statuses.iter().enumerate() {
+        line[at + i] = mark_of(*status, entry(halts, i));
     }
-    at + i
+    at + statuses.len()
 }
 
+#[tactic(auto, unfolding(crate::specs::Line::mark))]
 fn mark_of(status: u8, halt: u8) -> u8
     ensures { result ≡ mark status halt }
 {
-    if status == 0 {
-        return b'S';
+    match (status, halt) {
+        (0, _) => b'S',
+        (1, _) => b'F',
+        (2, _) => b'R',
+        (_, 0) => b'-',
+        _ => b'h',
     }
-    if status == 1 {
-        return b'F';
-    }
-    if status == 2 {
-        return b'R';
-    }
-    if halt == 0 {
-        return b'-';
-    }
-    b'h'
 }
 
 // An entry, or 0 where there is none.
 fn entry(list: &[u8], i: usize) -> u8
     ensures { result ≡ get_or list.now i 0 }
 {
-    if i < list.len() {
-        return list[i];
-    }
-    0
+    list.get(i).copied().unwrap_or(0)
 }
 
 // The cursors, joined by commas.
+#[tactic(auto, unfolding(crate::specs::Line::cursor_field))]
 fn append_cursors(line: &mut [u8], at: usize, cursors: &[u32]) -> usize
     requires { at + 21 * length cursors.now + 1 ≤ length line.old }
-    ensures { (take result line.new ≡ take at line.old ++ cursor_field cursors.now) × (result ≤ at + 21 * length cursors.now + 1) }
+    ensures text { take result line.new ≡ take at line.old ++ cursor_field cursors.now }
+    ensures limit { result ≤ at + 21 * length cursors.now + 1 }
 {
-    if cursors.len() == 0 {
+    let Some((first, others)) = cursors.split_first() else {
         return append(line, at, b"-");
-    }
-    let first = append_decimal(line, at, long(cursors[0]));
-    append_more(line, first, cursors)
+    };
+    let end = append_decimal(line, at, u64::from(*first));
+    append_more(line, end, others)
 }
 
-// A comma and a number for each cursor but the first.
+// A comma and a number for each cursor.
+#[tactic(auto, unfolding(crate::specs::Line::more))]
 fn append_more(line: &mut [u8], at: usize, cursors: &[u32]) -> usize
-    requires { (1 ≤ length cursors.now) × (at + 21 * length cursors.now ≤ length line.old + 20) }
-    ensures { (take result line.new ≡ take at line.old ++ more (drop 1 cursors.now)) × (result + 21 ≤ at + 21 * length cursors.now) }
+    requires { at + 21 * length cursors.now ≤ length line.old }
+    ensures text { take result line.new ≡ take at line.old ++ more cursors.now }
+    ensures limit { result ≤ at + 21 * length cursors.now }
 {
     let mut end = at;
-    let mut i: usize = 1;
-    while i < cursors.len() {
+    for cursor in cursors {
         let parted = append(line, end, b",");
-        end = append_decimal(line, parted, long(cursors[i]));
-        i += 1;
+        end = append_decimal(line, parted, u64::from(*cursor));
     }
     end
 }
 
-fn long(x: u32) -> u64
-    ensures { result ≡ x }
-{
-    x as u64
-}
-
 // One digit a leaf.
+#[tactic(auto, unfolding(crate::specs::Line::edge_field))]
 fn append_edges(line: &mut [u8], at: usize, edges: &[u8]) -> usize
     requires { at + length edges.now + 1 ≤ length line.old }
-    ensures { (take result line.new ≡ take at line.old ++ edge_field edges.now) × (result ≤ at + length edges.now + 1) }
+    ensures text { take result line.new ≡ take at line.old ++ edge_field edges.now }
+    ensures limit { result ≤ at + length edges.now + 1 }
 {
-    if edges.len() == 0 {
+    if edges.is_empty() {
         return append(line, at, b"-");
     }
     append_digits(line, at, edges)
@@ -135,12 +124,11 @@ fn append_edges(line: &mut [u8], at: usize, edges: &[u8]) -> usize
 
 fn append_digits(line: &mut [u8], at: usize, edges: &[u8]) -> usize
     requires { at + length edges.now ≤ length line.old }
-    ensures { Appended line.old at (map digit edges.now) line.new result }
+    ensures text { take result line.new ≡ take at line.old ++ map digit edges.now }
+    ensures next { result ≡ at + length edges.now }
 {
-    let mut i: usize = 0;
-    while i < edges.len() {
-        line[at + i] = b'0' + edges[i] % 10;
-        i += 1;
+    for (i, edge) in edges.iter().enumerate() {
+        line[at + i] = b'0' + *edge % 10;
     }
-    at + i
+    at + edges.len()
 }

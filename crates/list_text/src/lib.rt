@@ -7,43 +7,48 @@ mod outer;
 
 ghost use Rattle.std.specs.Prelude.{◌≡◌, length};
 ghost use Rattle.text.specs.Text.{placed};
-ghost use Rattle.list_text.specs.Line.{line_of, refused_line, bad_line};
+ghost use Rattle.list_text.specs.Line.{listable, line_in, refused_line, bad_line};
 
 use fields::{spell, spell_refused};
 pub use outer::{Outer, outer_at};
 use text::put_line;
 
-// The lengths of lines.
-#[derive(Clone, Copy)]
-pub struct Line {}
+// Nodes, and so cursors and leaves, of a line at most.
+const MOST: usize = 128;
 
-impl Line {
-    // Nodes, and so cursors and leaves, at most.
-    pub const MOST: usize = 128;
-    // Room that any line fits into.
-    pub const ROOM: usize = 3072;
+// Room that any line fits into.
+pub const LINE_ROOM: usize = 3072;
+
+// What a tick's line shows: the tick's number, each node's status and whether it was halted, the cursors, and each leaf's edge.
+#[derive(Clone, Copy)]
+pub struct TickLine<'a> {
+    pub number: u64,
+    pub statuses: &'a [u8],
+    pub halts: &'a [u8],
+    pub cursors: &'a [u32],
+    pub edges: &'a [u8],
+}
+
+impl TickLine<'_> {
+    fn is_listable(&self) -> bool
+        ensures { result ≡ listable self.now.statuses.now self.now.cursors.now self.now.edges.now }
+    {
+        self.statuses.len() <= MOST && self.cursors.len() <= MOST && self.edges.len() <= MOST
+    }
 }
 
 // Writes a tick's line, its line feed too, at the front of a buffer and answers the line's length. A buffer that is shorter than that stays as it
 // was, and so do the bytes past the line. More than 128 nodes, cursors or leaves have no line.
-pub fn write_line(
-    out: &mut [u8],
-    number: u64,
-    statuses: &[u8],
-    halts: &[u8],
-    cursors: &[u32],
-    edges: &[u8],
-) -> usize
-    ensures value { result ≡ length (line_of number statuses.now halts.now cursors.now edges.now) }
-    ensures out_after { out.new ≡ placed (line_of number statuses.now halts.now cursors.now edges.now) out.old }
+#[tactic(auto, unfolding(crate::specs::Line::line_of))]
+pub fn write_line(out: &mut [u8], tick: &TickLine) -> usize
+    ensures value { result ≡ length (line_in tick.now) }
+    ensures out_after { out.new ≡ placed (line_in tick.now) out.old }
 {
-    let listable = (statuses.len() <= Line::MOST)
-        & ((cursors.len() <= Line::MOST) & (edges.len() <= Line::MOST));
-    if !listable {
+    if !tick.is_listable() {
         return 0;
     }
-    let mut line = [0u8; Line::ROOM];
-    let length = spell(&mut line, number, statuses, halts, cursors, edges);
+    let mut line = [0; LINE_ROOM];
+    let length = spell(&mut line, tick);
     put_line(out, &line[..length])
 }
 
@@ -52,7 +57,7 @@ pub fn write_refused(out: &mut [u8], number: u64, place: u64) -> usize
     ensures value { result ≡ length (refused_line number place) }
     ensures out_after { out.new ≡ placed (refused_line number place) out.old }
 {
-    let mut line = [0u8; 64];
+    let mut line = [0; 64];
     let length = spell_refused(&mut line, number, place);
     put_line(out, &line[..length])
 }

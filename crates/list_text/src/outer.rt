@@ -15,13 +15,11 @@ pub enum Outer {
     Bad,
 }
 
+#[tactic(auto, unfolding(crate::specs::Outer::outer_at))]
 pub fn outer_at(bytes: &[u8], at: usize) -> Outer
     ensures { result ≡ outer_at bytes.now at }
 {
-    if bytes.len() < at {
-        return Outer::Cut;
-    }
-    let left = bytes.len() - at;
+    let left = bytes.len().saturating_sub(at);
     if left < 2 {
         return Outer::Cut;
     }
@@ -34,7 +32,7 @@ pub fn outer_at(bytes: &[u8], at: usize) -> Outer
     }
     let kind = number_at(bytes, at + 2);
     Outer::Whole {
-        kind: kind,
+        kind,
         start: at + 4,
         end: at + 2 + size,
     }
@@ -43,15 +41,8 @@ pub fn outer_at(bytes: &[u8], at: usize) -> Outer
 // The two-byte number at a position.
 fn number_at(bytes: &[u8], at: usize) -> usize
     requires { at + 1 < length bytes.now }
-    ensures { (result ≡ u16_at bytes.now at) × (result < 65536) }
+    ensures value { result ≡ u16_at bytes.now at }
+    ensures limit { result < 65536 }
 {
-    let low = wide(bytes[at]);
-    let high = wide(bytes[at + 1]);
-    low + 256 * high
-}
-
-fn wide(x: u8) -> usize
-    ensures { (result ≡ x) × (result < 256) }
-{
-    x as usize
+    usize::from(u16::from_le_bytes([bytes[at], bytes[at + 1]]))
 }

@@ -1,10 +1,10 @@
-// The listing program's turns: bytes are read from a reader, the rows are listed as they come, and lines are written to standard output.
-// Nothing is promised of what a read gives or what the C library's write does, so the contracts here speak of lengths alone.
+// The listing program, over any reader and writer: bytes are read, the tree is compiled, the rows are listed as they come, and lines are written.
 #![tactic(auto)]
 
 mod input;
 mod output;
 mod rows;
+mod whole;
 
 pub use input::read_front;
-pub use rows::go_on;
+pub use whole::list;

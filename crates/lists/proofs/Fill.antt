@@ -11,17 +11,6 @@ use Rattle.lists.proofs.Entries.{each_length, each_append}
 use Rattle.lists.specs.Fill.{fill_at, prefix}
 
 module _ {A : Type 0} (base : ℕ) (f : ℕ → A) (xs : List A) where
-  pub fill_none : xs ≡ fill_at base f xs 0
-  unfolding fill_at
-  fill_none = refl
-
-  pub fill_more : (i : ℕ) {cur : List A} {at : ℕ} {v : A} → cur ≡ fill_at base f xs i → at ≡ base + i → v ≡ f i → set cur at v ≡ fill_at base f xs (i + 1)
-  unfolding fill_at
-  fill_more i e p q = (λ k. set (e k) (p k) (q k)) ∙ sym (ap (fill_at base f xs) (add-one i))
-
-  pub fill_end : (i n : ℕ) {cur : List A} → cur ≡ fill_at base f xs i → i ≤ n → n ≤ i → cur ≡ fill_at base f xs n
-  fill_end i n e h k = let q : i ≡ n = omega arith in e ∙ ap (fill_at base f xs) q
-
   pub fill_length : (n : ℕ) → length (fill_at base f xs n) ≡ length xs
   unfolding fill_at
   fill_length zero = refl

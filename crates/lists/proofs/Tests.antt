@@ -2,9 +2,8 @@
 use mathlib.Core.Path.{◌≡◌, refl, sym, ap, ◌∙◌}
 use mathlib.Core.Bool.{Bool, true, false, ◌&&◌}
 use mathlib.Core.Logic.{⊎_elim}
-use Prim.Native.Nat.{ℕ, zero, suc, ◌+◌, ◌<◌}
+use Prim.Native.Nat.{ℕ, zero, suc, ◌<◌}
 use native.Mathlib.Nat.{eq-or-lt_of_le, le_of_suc-le-suc}
-use native.Mathlib.Numerals.{add-one}
 use native.Mathlib.Omega.{arith}
 use Rattle.lists.specs.All.{all}
 
@@ -31,14 +30,6 @@ fails_right true b e = sym e
 fails_right false b e = refl
 
 module _ (p : ℕ → Bool) where
-  pub all_none : all p 0 ≡ true
-  unfolding all
-  all_none = refl
-
-  pub all_more : (i : ℕ) → all p i ≡ true → p i ≡ true → all p (i + 1) ≡ true
-  unfolding all
-  all_more i h k = rw add-one (both (all p i) (p i) h k)
-
   pub all_fails : (i n : ℕ) → i < n → p i ≡ false → false ≡ all p n
   unfolding all
   all_fails i zero h e = absurd (none h)

@@ -5,89 +5,70 @@ mod composites;
 mod nodes;
 mod state;
 
-ghost use Rattle.std.specs.Prelude.{◌≡◌, true, ◌≤◌, ◌<◌, length};
-ghost use Rattle.builder_table.specs.Work.{Whole, mem};
+ghost use Rattle.std.specs.Prelude.{true, ◌≡◌, ◌≤◌, ◌<◌, length};
+ghost use Rattle.builder_table.specs.Loans.{memory, standing};
 ghost use Rattle.lower_passes.specs.Flat.{flat_of};
+ghost use Rattle.lower_passes.specs.Loans.{Raises};
+ghost use Rattle.lower_passes.specs.Marks.{up_at};
+ghost use Rattle.lower_passes.specs.Arbitrate.{Bounded};
 ghost use Rattle.lower_passes.specs.Arbitrate as Pass;
 
-use lower_passes::{Flat, Up};
-
-// A node for which all that it asks is there.
-fn up_node(
-    wires: &mut [u32],
-    coefs: &mut [f32],
-    nums: &mut [usize],
-    biases: &mut [f32],
-    u: Up,
-    i: usize,
-    node: Flat,
-    nodes: usize,
-    base: usize,
-) -> Up
-    requires { Whole nums.old biases.old × (i < 128) × Pass.Bounded u × (Pass.ready u (flat_of node) ≡ true) × (nodes ≤ 128) × (base ≤ 256) }
-    ensures { Pass.raised wires.new coefs.new nums.new biases.new result
-        ≡ Pass.node_in (mem wires.old coefs.old nums.old biases.old) u i (flat_of node) nodes base }
-{
-    match node {
-        Flat::Leaf => crate::nodes::up_leaf(wires, coefs, nums, biases, u, i, base),
-        Flat::Fixed(success) => crate::nodes::up_fixed(nums, biases, u, i, success),
-        Flat::Invert => crate::nodes::up_invert(nums, biases, u, i),
-        Flat::Force(success) => crate::nodes::up_force(wires, coefs, nums, biases, u, i, success),
-        Flat::Ordered(memory, on, n) => crate::composites::up_ordered(
-            wires, coefs, nums, biases, u, i, memory, on, n, nodes,
-        ),
-    }
-}
-
-fn up_step(
-    wires: &mut [u32],
-    coefs: &mut [f32],
-    nums: &mut [usize],
-    biases: &mut [f32],
-    u: Up,
-    i: usize,
-    node: Flat,
-    nodes: usize,
-    base: usize,
-) -> Up
-    requires { Whole nums.old biases.old × (i < 128) × Pass.Bounded u × (nodes ≤ 128) × (base ≤ 256) }
-    ensures { Pass.raised wires.new coefs.new nums.new biases.new result
-        ≡ Pass.step_within (mem wires.old coefs.old nums.old biases.old) u i (flat_of node) nodes base }
-{
-    if !crate::state::ready(u, node) {
-        return crate::state::stuck(u);
-    }
-    up_node(wires, coefs, nums, biases, u, i, node, nodes, base)
-}
-
-fn wide(n: u16) -> usize
-    ensures { result ≡ n }
-{
-    n as usize
-}
+use builder_table::Builder;
+use lower_passes::{Flat, UpMark};
+use wire::Form;
 
 // The nodes stand in pre-order, so that a node's children come before it here. The leaves' cells begin at base.
+#[tactic(auto, unfolding(lower_passes::specs::Arbitrate::arbitrate_in))]
 pub fn arbitrate(
-    wires: &mut [u32],
-    coefs: &mut [f32],
-    nums: &mut [usize],
-    biases: &mut [f32],
+    b: &mut Builder,
     kinds: &[u8],
     counts: &[u16],
-    start: Up,
+    start: UpMark,
     nodes: usize,
     base: usize,
-) -> Up
-    requires { Whole nums.old biases.old × Pass.Bounded start × (nodes ≤ 128) × (nodes ≤ length kinds.now) × (nodes ≤ length counts.now) × (base ≤ 256) }
-    ensures { Pass.raised wires.new coefs.new nums.new biases.new result
-        ≡ Pass.arbitrate_in (mem wires.old coefs.old nums.old biases.old) start kinds.now counts.now nodes base nodes }
+) -> UpMark
+    requires { Bounded (up_at (standing b.old) start) × (nodes ≤ 128) × (nodes ≤ length kinds.now) × (nodes ≤ length counts.now) × (base ≤ 256) }
+    ensures raised { Raises b.old b.new result (Pass.arbitrate_in (memory b.old) (up_at (standing b.old) start) kinds.now counts.now nodes base nodes) }
+    ensures bounded { Bounded (up_at (standing b.new) result) }
 {
     let mut u = start;
-    let mut i = nodes;
-    while 0 < i {
-        i -= 1;
-        let node = crate::state::flat_of(kinds[i], wide(counts[i]));
-        u = up_step(wires, coefs, nums, biases, u, i, node, nodes, base);
+    for i in (0..nodes).rev() {
+        let node = Flat::of(kinds[i], counts[i] as usize);
+        u = up_step(b, u, i, node, nodes, base);
     }
     u
+}
+
+#[tactic(auto, unfolding(lower_passes::specs::Arbitrate::step_within, lower_passes::specs::Arbitrate::stuck))]
+fn up_step(b: &mut Builder, u: UpMark, i: usize, node: Flat, nodes: usize, base: usize) -> UpMark
+    requires { (i < 128) × Bounded (up_at (standing b.old) u) × (nodes ≤ 128) × (base ≤ 256) }
+    ensures raised { Raises b.old b.new result (Pass.step_within (memory b.old) (up_at (standing b.old) u) i (flat_of node) nodes base) }
+    ensures bounded { Bounded (up_at (standing b.new) result) }
+{
+    if !crate::state::ready(u, node) {
+        // What the node asks for is not there: nothing is done, and the flag falls.
+        b.full();
+        return u;
+    }
+    up_node(b, u, i, node, nodes, base)
+}
+
+// A node for which all that it asks is there. The cursor of an ordered composite that has none is always 0.
+fn up_node(b: &mut Builder, u: UpMark, i: usize, node: Flat, nodes: usize, base: usize) -> UpMark
+    requires bounded { (i < 128) × Bounded (up_at (standing b.old) u) × (nodes ≤ 128) × (base ≤ 256) }
+    requires ready { Pass.ready (up_at (standing b.old) u) (flat_of node) ≡ true }
+    ensures raised { Raises b.old b.new result (Pass.node_in (memory b.old) (up_at (standing b.old) u) i (flat_of node) nodes base) }
+    ensures bounded { Bounded (up_at (standing b.new) result) }
+{
+    match node {
+        Flat::Leaf => crate::nodes::up_leaf(b, u, i, base),
+        Flat::Fixed(success) => crate::nodes::up_fixed(b, u, i, success),
+        Flat::Invert => crate::nodes::up_invert(b, u, i),
+        Flat::Force(success) => crate::nodes::up_force(b, u, i, success),
+        Flat::Ordered(true, on, n) => crate::composites::up_memory(b, u, i, on, n, nodes),
+        Flat::Ordered(false, on, n) => {
+            let cursor = Form::constant(0.0);
+            crate::composites::up_composite(b, u, i, on, cursor, n)
+        }
+    }
 }

@@ -8,12 +8,12 @@ use Rattle.construct.specs.Circuit.{slot_end, cell_end}
 use Rattle.construct.specs.Lower.{Flat, slot_after, cell_after, up_step}
 use Rattle.construct.specs.Lower as L
 use Rattle.construct_floats.specs.Floats.{floats}
-use Rattle.builder_table.specs.declared.Builder.{Builder}
-use Rattle.builder_table.specs.Work.{Mem, Whole}
+use Rattle.builder_table.specs.Work.{Standing, Mem}
+use Rattle.builder_table.specs.Whole.{Whole}
 use Rattle.builder_laws.specs.Table.{Ops}
 use Rattle.lower_room.proofs.Uses.{kids_of, step_use, up_use, up_more}
 use Rattle.builder_laws.proofs.Runs.{runs_none, runs_then, runs_wide, whole_kept}
-use Rattle.lower_passes.specs.declared.Up.{Up}
+use Rattle.lower_passes.specs.Marks.{Up}
 use Rattle.lower_passes.specs.Arbitrate.{Raised, up, step_within, arbitrate_in}
 use Rattle.lower_ordered_laws.proofs.Passes.{roots, Sound, rows_in, NodesAt}
 use Rattle.lower_arbitrate_laws.proofs.Upward.{Arbitrated}
@@ -47,7 +47,7 @@ module _ (m : Mem) (v : Up) (nodes base : ℕ) where
 
 -- ---- the law
 
-module _ (m : Mem) (b : Builder) (slots cells cursorsAt leaves_at : ℕ) (w : Whole m.nums m.biases) (o : Ops m b []) where
+module _ (m : Mem) (b : Standing) (slots cells cursorsAt leaves_at : ℕ) (w : Whole m.nums m.biases) (o : Ops m b []) where
   -- as the pass begins
   abbrev start : Up
   start = up b 0 0 slots cells
@@ -70,7 +70,7 @@ module _ (m : Mem) (b : Builder) (slots cells cursorsAt leaves_at : ℕ) (w : Wh
       record { stands = z.stands; runs = runs_wide (runs_then a.runs z.runs) _ _ (omega arith) (omega arith) }
 
 -- the cursors' cells follow the nodes, and the leaves' begin at leaves_at
-pub arbitrate_law : (m : Mem) (b : Builder) (kinds counts : List ℕ) (leaves_at : ℕ) (ns : List Flat) → NodesAt kinds counts 0 ns → Sound ns → length ns ≤ 128 → Whole m.nums m.biases → Ops m b []
+pub arbitrate_law : (m : Mem) (b : Standing) (kinds counts : List ℕ) (leaves_at : ℕ) (ns : List Flat) → NodesAt kinds counts 0 ns → Sound ns → length ns ≤ 128 → Whole m.nums m.biases → Ops m b []
     → Arbitrated 0 0 0 ns m (up b 0 0 (slot_end 0 ns) (cell_end 0 ns)) (arbitrate_in m (up b 0 0 (slot_end 0 ns) (cell_end 0 ns)) kinds counts (length ns) leaves_at (length ns))
     (L.up floats b.cells (length ns) leaves_at 0 0 ns) (up_use floats b.cells (length ns) leaves_at 0 0 ns) (up_more ns)
 arbitrate_law m b kinds counts leaves_at ns h so l w o =

@@ -13,15 +13,15 @@ use Rattle.construct.specs.Builder.{Op}
 use Rattle.construct.specs.Lower.{Flat, ordered, StatusBits as Bits, ArbitratedChild, Ordered, lower}
 use Rattle.construct.specs.Lower as L
 use Rattle.construct_floats.specs.Floats.{floats}
-use Rattle.builder_table.specs.declared.Builder.{Builder}
-use Rattle.builder_table.specs.Work.{Mem, Whole, loaded, saved}
+use Rattle.builder_table.specs.Work.{Standing, Mem, loaded, saved}
+use Rattle.builder_table.specs.Whole.{Whole}
 use Rattle.builder_laws.specs.Table.{Stands}
 use Rattle.status.specs.declared.StatusBits.{StatusBits}
 use Rattle.lower_room.proofs.Uses.{lower_use}
 use Rattle.builder_laws.proofs.Running.{Runs, Rows}
 use Rattle.builder_laws.proofs.Runs.{Ready, rows_kept, runs_then, runs_less, runs_wide, ready_after, stands_after, saved_runs, slot_filled}
 use Rattle.lower_passes.specs.Ordered.{Ordains}
-use Rattle.lower_passes.specs.declared.Up.{Up}
+use Rattle.lower_passes.specs.Marks.{Up}
 use Rattle.builder_table.specs.Slots.{reach_from, after_stop_from, stack_success_from, stack_failure_from, stack_running_from, arbitrated_from}
 use Rattle.lower_passes.specs.Arbitrate.{raw_in, lowered_in, status_of, composite_in}
 use Rattle.lower_ordered_laws.proofs.Orders.{Apart, reaches, afters}
@@ -42,7 +42,7 @@ use Rattle.lower_arbitrate_laws.proofs.Lowered.{LoweredRuns, lowered}
 abbrev Unput : ℕ → ℕ → ℕ → Type 0
 Unput i d k = Unwritten i d k × (k ≡ arbitrated_from + i → ⊥)
 
-module _ {n : ℕ} {m : Mem} {b : Builder} {os : List (Op Affine)} (q : Ready n m b os) (i d : ℕ) (x : StatusBits) (cur : Form) (hi : i < 128) (hd : d < 128) where
+module _ {n : ℕ} {m : Mem} {b : Standing} {os : List (Op Affine)} (q : Ready n m b os) (i d : ℕ) (x : StatusBits) (cur : Form) (hi : i < 128) (hd : d < 128) where
   abbrev written : Mem
   written = saved (raw_in m i d x) (arbitrated_from + i) cur
 

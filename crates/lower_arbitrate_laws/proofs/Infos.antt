@@ -5,8 +5,7 @@ use mathlib.Core.List.{List}
 use lib.ListN.{length, length-map}
 use Rattle.wire.specs.Terms.{Affine}
 use Rattle.construct.specs.Lower.{Flat, StatusBits, Arbitration}
-use Rattle.builder_table.specs.declared.Builder.{Builder}
-use Rattle.builder_table.specs.Work.{Mem}
+use Rattle.builder_table.specs.Work.{Standing, Mem}
 use Rattle.builder_laws.proofs.Running.{Keeps}
 use Rattle.builder_laws.proofs.Runs.{stack_kept}
 use Rattle.builder_table.specs.Slots.{reach_from, after_stop_from, raw_success_from, raw_failure_from, raw_running_from, stack_success_from, stack_failure_from, stack_running_from, arbitrated_from}
@@ -27,7 +26,7 @@ pub record Spares (K : ℕ → Type 0) (i row : ℕ) : Type 0 where
   pub reach : Over reach_from (reach_from + row) K
   pub after : Over after_stop_from (after_stop_from + row) K
 
-module _ {K : ℕ → Type 0} {m : Mem} {b : Builder} {m' : Mem} {b' : Builder} (g : Keeps K m b m' b') where
+module _ {K : ℕ → Type 0} {m : Mem} {b : Standing} {m' : Mem} {b' : Standing} (g : Keeps K m b m' b') where
   pub infos_kept : (i : ℕ) (ns : List Flat) (xs : List (Arbitration Affine)) → length ns + i ≤ 128 → rows_in ns ≤ 128 → Spares K i (rows_in ns) → ArbitrationsAt m b i ns xs → ArbitrationsAt m' b' i ns xs
   infos_kept i ns xs l t q h =
       Kept.infos_kept g i ns xs (omega arith) t

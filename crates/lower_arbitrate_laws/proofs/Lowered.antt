@@ -11,8 +11,8 @@ use Rattle.wire.specs.Terms.{Affine}
 use Rattle.construct.specs.Builder.{Op}
 use Rattle.construct.specs.Lower.{StatusBits as Bits, Ordered, inverted, inverteds, lower_seq, lower}
 use Rattle.construct_floats.specs.Floats.{floats}
-use Rattle.builder_table.specs.declared.Builder.{Builder}
-use Rattle.builder_table.specs.Work.{Mem, Whole}
+use Rattle.builder_table.specs.Work.{Standing, Mem}
+use Rattle.builder_table.specs.Whole.{Whole}
 use Rattle.builder_laws.specs.Table.{Ops, Stands}
 use Rattle.status.specs.declared.StatusBits.{StatusBits}
 use Rattle.lower_room.proofs.Uses.{seq_use, lower_use}
@@ -25,7 +25,7 @@ use Rattle.lower_ordered_laws.proofs.Ordered.{ordered_runs}
 use Rattle.lower_arbitrate_laws.proofs.Counts.{inverteds_count}
 use Rattle.lower_arbitrate_laws.proofs.Raw.{BitsAt}
 
-pub record LoweredRuns (m : Mem) (b : Builder) (row n need : ℕ) (e : Ordains) (x : StatusBits) (o : Ordered Affine) : Type 0 where
+pub record LoweredRuns (m : Mem) (b : Standing) (row n need : ℕ) (e : Ordains) (x : StatusBits) (o : Ordered Affine) : Type 0 where
   pub runs : Runs (Apart row n) m b e.mem e.ordered.builder o.ops need (8 * n)
   pub status : BitsAt e.mem e.ordered.builder x o.status
   pub cursor : Stands e.mem e.ordered.builder e.ordered.cursor o.cursor
@@ -47,7 +47,7 @@ unfolding inverteds inverted
 rs_inverteds [] = refl
 rs_inverteds (t ∷ ts) = λ i. t.running ∷ rs_inverteds ts i
 
-module _ (m : Mem) (b : Builder) (cursor : Form) (top row n : ℕ) (c : Affine) (os : List (Op Affine)) (w : Whole m.nums m.biases) (q : Ops m b os) (hc : Stands m b cursor c) (lt : top < 128)
+module _ (m : Mem) (b : Standing) (cursor : Form) (top row n : ℕ) (c : Affine) (os : List (Op Affine)) (w : Whole m.nums m.biases) (q : Ops m b os) (hc : Stands m b cursor c) (lt : top < 128)
     (lr : row + n ≤ 128) where
   -- by the number of children
   counted : (advance other : ℕ) (ts : List (Bits Affine)) → length ts ≡ n → advance < 768 → other < 768 → Falls m b advance (ss ts) → Falls m b other (fs ts) → Falls m b (stack_running_from + top) (rs ts)

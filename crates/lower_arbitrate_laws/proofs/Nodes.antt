@@ -10,8 +10,8 @@ use Rattle.construct.specs.Builder.{Op}
 use Rattle.construct.specs.Lower.{Flat, leaf, fixed, invert, force, slot_after, cell_after, StatusBits as Bits, top, inverted, forced, fixed_t, leaf_t, up_step}
 use Rattle.construct.specs.Lower as L
 use Rattle.construct_floats.specs.Floats.{floats}
-use Rattle.builder_table.specs.declared.Builder.{Builder}
-use Rattle.builder_table.specs.Work.{Mem, Whole}
+use Rattle.builder_table.specs.Work.{Standing, Mem}
+use Rattle.builder_table.specs.Whole.{Whole}
 use Rattle.builder_table.specs.Steps.{wire_in}
 use Rattle.builder.specs.Bits.{bit_form}
 use Rattle.builder_laws.proofs.Builder.{stands_one, stands_zero}
@@ -21,7 +21,7 @@ use Rattle.lower_room.proofs.Uses.{step_use}
 use Rattle.builder_laws.proofs.Running.{Runs}
 use Rattle.builder_laws.proofs.Runs.{Ready, runs_none, runs_then, ready_after, stands_after}
 use Rattle.builder_laws.proofs.Steps.{wire_runs, plus_runs}
-use Rattle.lower_passes.specs.declared.Up.{Up}
+use Rattle.lower_passes.specs.Marks.{Up}
 use Rattle.lower_passes.specs.Arbitrate.{up, status_in, own_of, leaf_in, fixed_within, invert_in, force_in}
 use Rattle.lower_ordered_laws.proofs.Passes.{roots, Sound, UpAt}
 use Rattle.lower_arbitrate_laws.proofs.Upward.{Arbitrated}
@@ -32,14 +32,14 @@ use Rattle.lower_arbitrate_laws.proofs.Plain.{All, ready_up, plain_law}
 
 -- ---- a fixed status
 
-fixed_bits : (m : Mem) (b : Builder) (own : Bool) → BitsAt m b (with_bit unticked_bits (own_of own) (bit_form true)) (fixed_t floats own)
+fixed_bits : (m : Mem) (b : Standing) (own : Bool) → BitsAt m b (with_bit unticked_bits (own_of own) (bit_form true)) (fixed_t floats own)
 unfolding with_bit fixed_t
 fixed_bits m b true = record { success = stands_one; failure = stands_zero; running = stands_zero }
 fixed_bits m b false = record { success = stands_zero; failure = stands_one; running = stands_zero }
 
 -- ---- a forced status
 
-module _ {n : ℕ} {m : Mem} {b : Builder} {os : List (Op Affine)} (q : Ready n m b os) (x : StatusBits) (t : Bits Affine) (z : BitsAt m b x t) where
+module _ {n : ℕ} {m : Mem} {b : Standing} {os : List (Op Affine)} (q : Ready n m b os) (x : StatusBits) (t : Bits Affine) (z : BitsAt m b x t) where
   finished_runs : Runs All m b (finished_in m b x).mem (finished_in m b x).builder os (floats.terms t.success + floats.terms t.failure) 0
   unfolding finished_in
   finished_runs = (plus_runs {K = All} q z.success z.failure).runs

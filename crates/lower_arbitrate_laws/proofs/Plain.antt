@@ -8,12 +8,13 @@ use Rattle.wire.specs.Terms.{Affine}
 use Rattle.construct.specs.Lower.{Flat, StatusBits as Bits, plain}
 use Rattle.construct.specs.Lower as L
 use Rattle.construct_floats.specs.Floats.{floats}
-use Rattle.builder_table.specs.Work.{Mem, Whole}
+use Rattle.builder_table.specs.Whole.{Whole}
+use Rattle.builder_table.specs.Work.{Mem}
 use Rattle.status.specs.declared.StatusBits.{StatusBits}
 use Rattle.lower_room.proofs.Uses.{kids_of}
 use Rattle.builder_laws.proofs.Running.{Runs}
 use Rattle.builder_laws.proofs.Runs.{Ready, runs_then, runs_less, runs_wide, ready_after}
-use Rattle.lower_passes.specs.declared.Up.{Up}
+use Rattle.lower_passes.specs.Marks.{Up}
 use Rattle.lower_passes.specs.Arbitrate.{raw_in}
 use Rattle.lower_ordered_laws.proofs.Passes.{roots, Sound, rows_in, CurAt, StatusesAt, UpAt}
 use Rattle.lower_arbitrate_laws.proofs.Upward.{None, Arbitrated}

@@ -8,8 +8,8 @@ use Rattle.wire.specs.declared.Form.{Form}
 use Rattle.wire.specs.Terms.{Affine}
 use Rattle.construct.specs.Builder.{Op}
 use Rattle.construct.specs.Lower.{StatusBits as Bits}
-use Rattle.builder_table.specs.declared.Builder.{Builder}
-use Rattle.builder_table.specs.Work.{Mem, Whole, loaded, saved}
+use Rattle.builder_table.specs.Work.{Standing, Mem, loaded, saved}
+use Rattle.builder_table.specs.Whole.{Whole}
 use Rattle.builder_laws.specs.Table.{Stands}
 use Rattle.builder_laws.proofs.Table.{saved_own, saved_other}
 use Rattle.builder_laws.proofs.Running.{Runs, StackAt}
@@ -21,7 +21,7 @@ use Rattle.lower_ordered_laws.proofs.Passes.{RawAt, StatusesAt}
 use Rattle.lower_arbitrate_laws.proofs.Upward.{None}
 
 -- three forms stand for a status
-pub record BitsAt (m : Mem) (b : Builder) (x : StatusBits) (t : Bits Affine) : Type 0 where
+pub record BitsAt (m : Mem) (b : Standing) (x : StatusBits) (t : Bits Affine) : Type 0 where
   pub success : Stands m b x.success.0 t.success
   pub failure : Stands m b x.failure.0 t.failure
   pub running : Stands m b x.running.0 t.running
@@ -31,14 +31,14 @@ abbrev pub Unwritten : ℕ → ℕ → ℕ → Type 0
 Unwritten i d k =
     (k ≡ raw_success_from + i → ⊥) × (k ≡ raw_failure_from + i → ⊥) × (k ≡ raw_running_from + i → ⊥) × (k ≡ stack_success_from + d → ⊥) × (k ≡ stack_failure_from + d → ⊥) × (k ≡ stack_running_from + d → ⊥)
 
-whole_saved : (m : Mem) (b : Builder) (k : ℕ) (f : Form) → Whole m.nums m.biases → Whole (saved m k f).nums (saved m k f).biases
+whole_saved : (m : Mem) (b : Standing) (k : ℕ) (f : Form) → Whole m.nums m.biases → Whole (saved m k f).nums (saved m k f).biases
 whole_saved m b k f w = whole_kept {b = b} {b' = b} (keeps_saved {K = None} {m = m} {b = b} k f (λ q. q)) w
 
 -- a form that is another
-pub stands_as : (m : Mem) (b : Builder) {f g : Form} {x : Affine} → f ≡ g → Stands m b g x → Stands m b f x
+pub stands_as : (m : Mem) (b : Standing) {f g : Form} {x : Affine} → f ≡ g → Stands m b g x → Stands m b f x
 stands_as m b {x = x} e h = subst (λ (z : Form). Stands m b z x) (sym e) h
 
-module _ (m : Mem) (b : Builder) (i d : ℕ) (x : StatusBits) (hi : i < 128) (hd : d < 128) where
+module _ (m : Mem) (b : Standing) (i d : ℕ) (x : StatusBits) (hi : i < 128) (hd : d < 128) where
   abbrev s : Form
   s = x.success.0
 

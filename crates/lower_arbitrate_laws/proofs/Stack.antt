@@ -6,8 +6,7 @@ use mathlib.Core.List.{List, [], ◌∷◌, map}
 use lib.ListN.{length, take, drop, length-map}
 use Rattle.wire.specs.Terms.{Affine}
 use Rattle.construct.specs.Lower.{StatusBits, top}
-use Rattle.builder_table.specs.declared.Builder.{Builder}
-use Rattle.builder_table.specs.Work.{Mem, loaded}
+use Rattle.builder_table.specs.Work.{Standing, Mem, loaded}
 use Rattle.builder_laws.specs.Table.{Stands}
 use Rattle.builder_laws.proofs.Running.{Falls, StackAt}
 use Rattle.builder_table.specs.Slots.{stack_success_from, stack_failure_from, stack_running_from}
@@ -15,7 +14,7 @@ use Rattle.lower_passes.specs.Arbitrate.{status_in}
 use Rattle.lower_ordered_laws.proofs.Passes.{StatusesAt}
 use Rattle.lower_arbitrate_laws.proofs.Raw.{BitsAt}
 
-module _ (m : Mem) (b : Builder) (base : ℕ) (p : StatusBits Affine → Affine) where
+module _ (m : Mem) (b : Standing) (base : ℕ) (p : StatusBits Affine → Affine) where
   -- the first n, from the top slot down
   pub stack_falls : (ts : List (StatusBits Affine)) (n top : ℕ) → n ≤ length ts → (0 < n → top + 1 ≡ base + length ts) → StackAt m b base (map p ts) → Falls m b top (map p (take n ts))
   stack_falls ts zero top l e h = tt
@@ -30,7 +29,7 @@ module _ (m : Mem) (b : Builder) (base : ℕ) (p : StatusBits Affine → Affine)
   stack_rest [] (suc n) h = tt
   stack_rest (t ∷ ts) (suc n) h = stack_rest ts n h.1
 
-module _ (m : Mem) (b : Builder) where
+module _ (m : Mem) (b : Standing) where
   pub trips_rest : (n : ℕ) (ts : List (StatusBits Affine)) → StatusesAt m b ts → StatusesAt m b (drop n ts)
   trips_rest n ts a =
       record {

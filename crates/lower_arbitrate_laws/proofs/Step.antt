@@ -12,7 +12,8 @@ use Rattle.arena_terms.specs.Sums as S
 use Rattle.construct.specs.Lower.{Flat, leaf, fixed, invert, force, ordered, up_step}
 use Rattle.construct.specs.Lower as L
 use Rattle.construct_floats.specs.Floats.{floats}
-use Rattle.builder_table.specs.Work.{Mem, Whole}
+use Rattle.builder_table.specs.Whole.{Whole}
+use Rattle.builder_table.specs.Work.{Mem}
 use Rattle.builder_table.specs.Steps.{wire_in}
 use Rattle.builder_laws.specs.Table.{Stands}
 use Rattle.builder_laws.proofs.Builder.{stands_zero}
@@ -20,7 +21,7 @@ use Rattle.lower_room.proofs.Uses.{kids_of, step_use}
 use Rattle.builder_laws.proofs.Running.{Runs}
 use Rattle.builder_laws.proofs.Runs.{runs_then, runs_less, runs_wide, whole_kept}
 use Rattle.builder_laws.proofs.Steps.{wire_runs}
-use Rattle.lower_passes.specs.declared.Up.{Up}
+use Rattle.lower_passes.specs.Marks.{Up}
 use Rattle.lower_passes.specs.Arbitrate.{Raised, up, composite_in, memory_in, ready, node_in, stuck, step_within}
 use Rattle.lower_ordered_laws.proofs.Passes.{takes, roots, Childed, Sound, rows_in, UpAt}
 use Rattle.lower_arbitrate_laws.proofs.Upward.{None, Arbitrated}

@@ -6,7 +6,7 @@ use Rattle.construct.specs.Lower.{Flat}
 use Rattle.construct.specs.Lower as L
 use Rattle.builder_table.specs.Work.{Mem}
 use Rattle.builder_laws.proofs.Running.{Runs}
-use Rattle.lower_passes.specs.declared.Up.{Up}
+use Rattle.lower_passes.specs.Marks.{Up}
 use Rattle.lower_passes.specs.Arbitrate.{Raised}
 use Rattle.lower_ordered_laws.proofs.Passes.{UpAt}
 

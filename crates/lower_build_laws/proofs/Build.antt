@@ -9,7 +9,8 @@ use Rattle.plan.specs.Plan.{leaves_of, cursors_of}
 use Rattle.wire.specs.Storage.{term_slots}
 use Rattle.construct_floats.specs.Floats.{floats}
 use Rattle.construct.specs.Circuit.{flats, build}
-use Rattle.builder_table.specs.Work.{Mem, Whole}
+use Rattle.builder_table.specs.Whole.{Whole}
+use Rattle.builder_table.specs.Work.{Mem}
 use Rattle.lower_passes.specs.Build.{build_in}
 use Rattle.lower_build_laws.proofs.Accepted.{Accepted}
 use Rattle.lower_build_laws.proofs.Built.{Built}

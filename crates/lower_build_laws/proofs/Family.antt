@@ -1,15 +1,9 @@
 -- A node that document 01 accepts takes all its children, as the passes ask for it.
-use Prim.Native.Nat.{ℕ, ◌≤◌}
-use native.Mathlib.Omega.{arith}
-use mathlib.Core.Path.{◌≡◌, refl, subst, sym}
-use mathlib.Core.List.{◌∷◌}
-use Rattle.tree_kinds.specs.declared.Family.{Family}
-use Rattle.tree_kinds.specs.declared.Family.TheVariants.{Unknown}
-use Rattle.tree_kinds.specs.declared.Row.{Row}
-use Rattle.tree_kinds.specs.Kinds.{blank, row_of, rows}
-use Rattle.tree_kinds.proofs.Rows.{known}
+use Rattle.std.proofs.Common.{◌≡◌, refl, sym, ℕ, zero, suc, ◌≤◌, Option, None, Some, IsSomeAnd, slice_get, arith}
+use Rattle.std.proofs.lemmas.Option.{slice_get_within}
+use Rattle.tree_kinds.specs.Kinds.{Entry, row_of, rows}
 use Rattle.tree_kinds.proofs.Table.{Every, at}
-use Rattle.tree.specs.Bytes.{Children}
+use Rattle.tree.specs.Bytes.{Children, KindChildren}
 use Rattle.walk.specs.Kind.{bit, has_cursor, kind_of}
 use Rattle.construct.specs.Lower.{flat_of}
 use Rattle.lower_ordered_laws.proofs.Passes.{Childed, takes}
@@ -24,35 +18,38 @@ infixr 20 ◌&◌
 ◌&◌ : {A B : Type 0} → A → B → A × B
 a & b = (a, b)
 
-abbrev Right : ℕ → Row → Type 0
-Right k row = (n : ℕ) → Children row.family n → Fits k n
+-- of the i-th row of the table, which is that of kind i + 1
+abbrev Right : ℕ → Option Entry → Type 0
+Right i row = (n : ℕ) → IsSomeAnd row (λ (r : Entry). Children r.family n) → Fits (suc i) n
 
-pub fits : (k n : ℕ) → Children (row_of k).family n → Fits k n
-unfolding row_of rows kind_of
-fits k n c = at blank Right (blank ∷ rows) by_number k (omega (arith, known k unknown)) n c
+by_number : Every Right 0 rows
+unfolding rows kind_of
+by_number =
+    (λ n c. record { takes_all = sym c; childed = tt; below = omega arith })
+    & (λ n c. record { takes_all = sym c; childed = tt; below = omega arith })
+    & (λ n c. record { takes_all = sym c; childed = tt; below = omega arith })
+    & (λ n c. record { takes_all = refl; childed = c; below = omega arith })
+    & (λ n c. record { takes_all = refl; childed = c; below = omega arith })
+    & (λ n c. record { takes_all = refl; childed = c; below = omega arith })
+    & (λ n c. record { takes_all = refl; childed = c; below = omega arith })
+    & (λ n c. record { takes_all = sym c; childed = tt; below = omega arith })
+    & (λ n c. record { takes_all = sym c; childed = tt; below = omega arith })
+    & (λ n c. record { takes_all = sym c; childed = tt; below = omega arith })
+    & (λ n c. absurd c)
+    & (λ n c. absurd c)
+    & (λ n c. absurd c)
+    & (λ n c. absurd c)
+    & (λ n c. absurd c)
+    & (λ n c. absurd c)
+    & (λ n c. absurd c)
+    & (λ n c. absurd c)
+    & tt
+
+pub fits : (k n : ℕ) → KindChildren k n → Fits k n
+unfolding row_of
+fits zero n c = absurd c
+fits (suc i) n c = go (slice_get rows i) refl c
   where
-    unknown : (row_of k).family ≡ Unknown → ⊥
-    unknown e = subst (λ (f : Family). Children f n) e c
-
-    by_number : Every Right 0 (blank ∷ rows)
-    by_number =
-        (λ n c. absurd c)
-        & (λ n c. record { takes_all = sym c; childed = tt; below = omega arith })
-        & (λ n c. record { takes_all = sym c; childed = tt; below = omega arith })
-        & (λ n c. record { takes_all = sym c; childed = tt; below = omega arith })
-        & (λ n c. record { takes_all = refl; childed = c; below = omega arith })
-        & (λ n c. record { takes_all = refl; childed = c; below = omega arith })
-        & (λ n c. record { takes_all = refl; childed = c; below = omega arith })
-        & (λ n c. record { takes_all = refl; childed = c; below = omega arith })
-        & (λ n c. record { takes_all = sym c; childed = tt; below = omega arith })
-        & (λ n c. record { takes_all = sym c; childed = tt; below = omega arith })
-        & (λ n c. record { takes_all = sym c; childed = tt; below = omega arith })
-        & (λ n c. absurd c)
-        & (λ n c. absurd c)
-        & (λ n c. absurd c)
-        & (λ n c. absurd c)
-        & (λ n c. absurd c)
-        & (λ n c. absurd c)
-        & (λ n c. absurd c)
-        & (λ n c. absurd c)
-        & tt
+    go : (row : Option Entry) → slice_get rows i ≡ row → IsSomeAnd row (λ (r : Entry). Children r.family n) → Fits (suc i) n
+    go None e c = absurd c
+    go (Some row) e c = at Right rows by_number i (slice_get_within rows i row e) n (rw e c)

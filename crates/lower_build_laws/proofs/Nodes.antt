@@ -13,8 +13,8 @@ use Rattle.construct.specs.Builder.{Op}
 use Rattle.construct.specs.Lower.{Flat, Arbitration, NodeReach, Many, flags}
 use Rattle.construct.specs.Lower as L
 use Rattle.construct.specs.Circuit.{slot_end, cell_end, inputs, cells_nc, root, outputs_of, build, construct}
-use Rattle.builder_table.specs.declared.Builder.{Builder}
-use Rattle.builder_table.specs.Work.{Mem, Whole, Stood}
+use Rattle.builder_table.specs.Work.{Standing, Mem, Stood}
+use Rattle.builder_table.specs.Whole.{Whole}
 use Rattle.builder_laws.specs.Table.{Ops, Lasts}
 use Rattle.builder_laws.proofs.Table.{lasts_on}
 use Rattle.lower_room.proofs.Uses.{up_use, up_more, down_use, down_more, flags_use, arena_use, ops_use}
@@ -46,7 +46,7 @@ outputs_count (x ∷ xs) (f ∷ fs) e = ap suc (outputs_count xs fs (omega (arit
 
 -- ---- where all had room, what stands is
 
-module _ (m : Mem) (b : Builder) (ok : b.room.ok ≡ true) where
+module _ (m : Mem) (b : Standing) (ok : b.room.ok ≡ true) where
   outputs_at : (i : ℕ) (xs : List (NodeReach Affine)) (fs : List Affine) → OutsAt m b i xs → Rows m b (next_running_from + i) fs → OutputsAt m b.room.used i (outputs_of xs fs)
   outputs_at i [] fs h r = tt
   outputs_at i (x ∷ xs) [] h r = tt
@@ -83,7 +83,7 @@ pub record Passed (m : Mem) (s : Stood) (ns : List Flat) : Type 0 where
   pub biases : length s.mem.biases ≡ length m.biases
 
 -- reach's law from where arbitrating left off
-reach_from_lem : (m : Mem) (b : Builder) (kinds counts : List ℕ) (ns : List Flat) (infos : List (Arbitration Affine)) (os : List (Op Affine)) (opsAt row : ℕ) → b.cells ≡ opsAt → row ≡ rows_in ns
+reach_from_lem : (m : Mem) (b : Standing) (kinds counts : List ℕ) (ns : List Flat) (infos : List (Arbitration Affine)) (os : List (Op Affine)) (opsAt row : ℕ) → b.cells ≡ opsAt → row ≡ rows_in ns
     → Whole m.nums m.biases → Ops m b os → ArbitrationsAt m b 0 ns infos → NodesAt kinds counts 0 ns → Sound ns → roots ns ≡ 1 → length ns ≤ 128 → cell_end 0 ns ≤ 128
     → ReachRuns 0 0 (down_use floats opsAt (length ns) 0 0 infos (root floats ∷ []) os) (down_more ns) m b
     (reach_in (root_in m) (down b 1 row 0) kinds counts (length ns) 0 (length ns))
@@ -100,7 +100,7 @@ reach_from_lem m b kinds counts ns infos os opsAt row c e w o h at so one few ce
     (reach_law m b kinds counts ns infos os w o h at so one few cells))
 
 -- and the flags' from where reaching did
-flags_after : (m : Mem) (b : Builder) (outs : List (NodeReach Affine)) (os : List (Op Affine)) (opsAt cursorsAt n : ℕ) → b.cells ≡ opsAt → length outs ≡ n → n ≤ 128
+flags_after : (m : Mem) (b : Standing) (outs : List (NodeReach Affine)) (os : List (Op Affine)) (opsAt cursorsAt n : ℕ) → b.cells ≡ opsAt → length outs ≡ n → n ≤ 128
     → Whole m.nums m.biases → Ops m b os → OutsAt m b 0 outs
     → FlagsRuns 0 n (flags_use floats opsAt outs os) m b (flags_in m b 0 n) (flags floats opsAt cursorsAt outs os)
 flags_after m b outs os opsAt cursorsAt n c e few w o h =
@@ -110,7 +110,7 @@ flags_after m b outs os opsAt cursorsAt n c e few w o h =
 
 module _ (m : Mem) (kinds counts : List ℕ) (ns : List Flat) (at : NodesAt kinds counts 0 ns) (sound : Sound ns) (one : roots ns ≡ 1) (few : length ns ≤ 128) (cells : cell_end 0 ns ≤ 128)
     (w : Whole m.nums m.biases) where
-  abbrev start : Builder
+  abbrev start : Standing
   start = fresh (inputs ns)
 
   abbrev e1 : Raised

@@ -1,4 +1,4 @@
+pub mod Copied
+pub mod Counted
 pub mod Lists
 pub mod Made
-pub mod Settled
-pub mod Slots

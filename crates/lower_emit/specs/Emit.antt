@@ -7,14 +7,19 @@ use Rattle.wire.specs.Terms.{terms_of}
 use Rattle.wire.specs.Storage as S
 use Rattle.arena_terms.specs.Steps.{wires_in, coefs_in}
 use Rattle.builder_table.specs.Work.{Mem, loaded}
-use Rattle.builder_table.specs.Slots.{raw_success_from, raw_failure_from, raw_running_from, next_cursor_from, reached_from, halted_from, next_running_from, ops_from}
+use Rattle.builder_table.specs.Slots.{raw_success_from, raw_failure_from, raw_running_from, reached_from, halted_from}
+use Rattle.builder_table.specs.Slots.{next_running_from, next_cursor_from, ops_from}
 
 -- ---- which slot of the table an output form stands in
 
 -- the row of a node's form: success, failure, running, reached, halted, next running
 unfoldable pub row_of : ℕ → ℕ
 row_of field =
-    cond (eqb field 0) raw_success_from (cond (eqb field 1) raw_failure_from (cond (eqb field 2) raw_running_from (cond (eqb field 3) reached_from (cond (eqb field 4) halted_from next_running_from))))
+    cond (eqb field 0) raw_success_from
+    (cond (eqb field 1) raw_failure_from
+    (cond (eqb field 2) raw_running_from
+    (cond (eqb field 3) reached_from
+    (cond (eqb field 4) halted_from next_running_from))))
 
 -- "three statuses, reached, halted, next running per node; next cursor per cell"
 unfoldable pub output_slot : ℕ → ℕ → ℕ
@@ -25,10 +30,14 @@ output_slot nodes k = cond (leb (6 * nodes) k) (next_cursor_from + (k - 6 * node
 abbrev pub len_at : List ℕ → ℕ → ℕ
 len_at nums k = get_or nums (2 * k + 1) 0
 
--- the terms of both forms of the ops from the k-th on, of which there are so many
+-- the terms of both forms of op k
+abbrev pub op_len : List ℕ → ℕ → ℕ
+op_len nums k = len_at nums (ops_from + 2 * k) + len_at nums (ops_from + 2 * k + 1)
+
+-- of the ops from the k-th on, of which there are so many
 unfoldable pub op_lens : List ℕ → ℕ → ℕ → ℕ
 op_lens nums k zero = 0
-op_lens nums k (suc rest) = len_at nums (ops_from + 2 * k) + len_at nums (ops_from + 2 * k + 1) + op_lens nums (k + 1) rest
+op_lens nums k (suc rest) = op_len nums k + op_lens nums (k + 1) rest
 
 -- the terms of the output forms from the k-th on
 unfoldable pub output_lens : List ℕ → ℕ → ℕ → ℕ → ℕ
@@ -56,7 +65,8 @@ image nums biases wires coefs next = record { nums = nums; biases = biases; wire
 -- a form's range is written at one index of nums, its bias at one of biases, and its terms, which lie in the work pools ws and cs, past those written
 unfoldable pub form_in : Image → List ℕ → List Float → Form → ℕ → ℕ → Image
 form_in e ws cs f at bias =
-    image (set (set e.nums at e.next) (at + 1) f.len) (set e.biases bias f.bias) (sets e.wires e.next (wires_in (terms_of ws cs f))) (sets e.coefs e.next (coefs_in (terms_of ws cs f))) (e.next + f.len)
+    image (set (set e.nums at e.next) (at + 1) f.len) (set e.biases bias f.bias)
+    (sets e.wires e.next (wires_in (terms_of ws cs f))) (sets e.coefs e.next (coefs_in (terms_of ws cs f))) (e.next + f.len)
 
 -- op k: its kind, then left and gate
 unfoldable pub op_in : Image → List ℕ → List Float → Form → Form → ℕ → Image
@@ -66,15 +76,23 @@ op_in e ws cs left gate k =
     let a = image (set e.nums at S.reglu_kind) e.biases e.wires e.coefs e.next in
     form_in (form_in a ws cs left (at + 1) bias) ws cs gate (at + 3) (bias + 1)
 
+-- that of the table
+abbrev pub op_at : Image → Mem → ℕ → Image
+op_at e m k = op_in e m.wires m.coefs (loaded m (ops_from + 2 * k)) (loaded m (ops_from + 2 * k + 1)) k
+
 -- the ops from the k-th on, of which there are so many
 unfoldable pub ops_in : Image → Mem → ℕ → ℕ → Image
 ops_in e m k zero = e
-ops_in e m k (suc rest) = ops_in (op_in e m.wires m.coefs (loaded m (ops_from + 2 * k)) (loaded m (ops_from + 2 * k + 1)) k) m (k + 1) rest
+ops_in e m k (suc rest) = ops_in (op_at e m k) m (k + 1) rest
+
+-- output form k
+abbrev pub output_at : Image → Mem → ℕ → ℕ → Image
+output_at e m nodes k = form_in e m.wires m.coefs (loaded m (output_slot nodes k)) (S.outputs_from + 2 * k) k
 
 -- the output forms from the k-th on
 unfoldable pub outputs_in : Image → Mem → ℕ → ℕ → ℕ → Image
 outputs_in e m nodes k zero = e
-outputs_in e m nodes k (suc rest) = outputs_in (form_in e m.wires m.coefs (loaded m (output_slot nodes k)) (S.outputs_from + 2 * k) k) m nodes (k + 1) rest
+outputs_in e m nodes k (suc rest) = outputs_in (output_at e m nodes k) m nodes (k + 1) rest
 
 -- "both forms of every op, then .. the output forms"
 unfoldable pub emit_in : Image → Mem → ℕ → ℕ → ℕ → Image
@@ -86,17 +104,13 @@ emit_in e m ops nodes cursors = outputs_in (ops_in e m 0 ops) m nodes 0 (outputs
 abbrev pub Inside : List ℕ → List Float → Form → Type 0
 Inside ws cs f = (f.first + f.len ≤ length ws) × (f.first + f.len ≤ length cs)
 
--- n terms from `next` on go into the circuit's pools, and their indices into its numbers
-abbrev pub Fits : List ℕ → List Float → ℕ → ℕ → Type 0
-Fits wires coefs next n = (next + n ≤ length wires) × (next + n ≤ length coefs) × (next + n < 4294967296)
+-- both forms of op k do
+abbrev pub OpInside : Mem → ℕ → Type 0
+OpInside m k = Inside m.wires m.coefs (loaded m (ops_from + 2 * k)) × Inside m.wires m.coefs (loaded m (ops_from + 2 * k + 1))
 
--- the circuit's slices hold so many ops, and the output forms
-abbrev pub Holds : List ℕ → List Float → ℕ → Type 0
-Holds nums biases ops = (S.ops_from + 5 * ops ≤ length nums) × (S.op_biases_from + 2 * ops ≤ length biases)
-
--- both forms of each op lie in the work pools
+-- those of each op do
 pub record OpsInside (m : Mem) (ops : ℕ) : Type 0 where
-  pub lies : (k : ℕ) → k < ops → Inside m.wires m.coefs (loaded m (ops_from + 2 * k)) × Inside m.wires m.coefs (loaded m (ops_from + 2 * k + 1))
+  pub lies : (k : ℕ) → k < ops → OpInside m k
 
 -- so does each of n output forms
 pub record OutputsInside (m : Mem) (nodes n : ℕ) : Type 0 where

@@ -4,167 +4,121 @@
 mod emit;
 
 ghost use Rattle.std.specs.Prelude.{◌≡◌, ◌≤◌, ◌<◌, length};
-ghost use Rattle.plan.specs.Plan.{leaves_of, cursors_of};
-ghost use Rattle.compile.specs.Compile.{lent};
+ghost use Rattle.wire.specs.Lending.{LentAs};
 ghost use Rattle.compile.specs.Compile.{roomy as roomyOf};
-ghost use Rattle.builder_table.specs.Work.{Whole, ops_most, mem};
-ghost use Rattle.lower_emit.specs.Emit.{all_lens, outputs_many, OpsInside, OutputsInside, Holds};
-ghost use Rattle.lower_emit.specs.Settle.{outcome, zeros, zeros32, listed_in, refused_in, settled_in};
+ghost use Rattle.compile.specs.Lending.{lent_in};
+ghost use Rattle.compile.specs.Lending.{LentAs as WorkLentAs};
+ghost use Rattle.builder_table.specs.Whole.{ops_most};
+ghost use Rattle.builder_table.specs.Loans.{memory};
+ghost use Rattle.lower_emit.specs.Emit.{all_lens, outputs_many, OpsInside, OutputsInside};
+ghost use Rattle.lower_emit.specs.Written.{Holds};
+ghost use Rattle.lower_emit.specs.Settle.{outcome_in, Wiped, WorkWiped, listed_in, plan_of, refused_in, settled_in};
 
-use compile::{Compiled, Room};
+use builder_table::Builder;
+use compile::WorkRoom;
+use plan::Plan;
 use tree_record::{Cause, Refusal};
-use wire::{Biases, Counts, Nums};
+use wire::{Biases, Counts, Nums, Storage};
 
 // Not "work room, or any circuit storage but the op and term slots, shorter than its length in docs/".
-pub fn roomy(
-    nums: usize,
-    biases: usize,
-    wires: usize,
-    coefs: usize,
-    worknums: usize,
-    workbiases: usize,
-    workwires: usize,
-    workcoefs: usize,
-) -> bool
-    ensures { result ≡ roomyOf (lent nums biases wires coefs worknums workbiases workwires workcoefs) }
+#[tactic(auto, unfolding(compile::specs::Compile::roomy))]
+pub fn roomy(storage: &Storage, work: &WorkRoom) -> bool
+    ensures { result ≡ roomyOf (lent_in storage.now work.now) }
 {
-    (Nums::OPS <= nums)
-        & ((Biases::OPS <= biases)
-            & ((Room::NUMS <= worknums)
-                & ((Room::BIASES <= workbiases)
-                    & ((Room::TERMS <= workwires) & (Room::TERMS <= workcoefs)))))
+    Nums::OPS <= storage.nums.len()
+        && Biases::OPS <= storage.biases.len()
+        && WorkRoom::NUMS <= work.nums.len()
+        && WorkRoom::BIASES <= work.biases.len()
+        && WorkRoom::TERMS <= work.wires.len()
+        && WorkRoom::TERMS <= work.coefs.len()
 }
 
 // ---- zeroing
 
-fn zero_numbers(numbers: &mut [u32])
-    ensures { numbers.new ≡ zeros numbers.old }
-{
-    let mut i = 0;
-    while i < numbers.len() {
-        numbers[i] = 0;
-        i += 1;
-    }
-}
-
-fn zero_floats(floats: &mut [f32])
-    ensures { floats.new ≡ zeros32 floats.old }
-{
-    let mut i = 0;
-    while i < floats.len() {
-        floats[i] = 0.0;
-        i += 1;
-    }
-}
-
-fn zero_sizes(sizes: &mut [usize])
-    ensures { sizes.new ≡ zeros sizes.old }
-{
-    let mut i = 0;
-    while i < sizes.len() {
-        sizes[i] = 0;
-        i += 1;
-    }
-}
-
 // A circuit's storage.
-pub fn wipe(nums: &mut [u32], biases: &mut [f32], wires: &mut [u32], coefs: &mut [f32])
-    ensures { (nums.new ≡ zeros nums.old) × (biases.new ≡ zeros32 biases.old)
-        × (wires.new ≡ zeros wires.old) × (coefs.new ≡ zeros32 coefs.old) }
+pub fn wipe(storage: &mut Storage)
+    ensures lent { LentAs storage.old storage.new }
+    ensures wiped { Wiped storage.old storage.new }
 {
-    zero_numbers(nums);
-    zero_floats(biases);
-    zero_numbers(wires);
-    zero_floats(coefs);
+    storage.nums.fill(0);
+    storage.biases.fill(0.0);
+    storage.wires.fill(0);
+    storage.coefs.fill(0.0);
 }
 
 // The work room.
-pub fn wipe_work(nums: &mut [usize], biases: &mut [f32], wires: &mut [u32], coefs: &mut [f32])
-    ensures { (nums.new ≡ zeros nums.old) × (biases.new ≡ zeros32 biases.old)
-        × (wires.new ≡ zeros wires.old) × (coefs.new ≡ zeros32 coefs.old) }
+pub fn wipe_work(work: &mut WorkRoom)
+    ensures lent { WorkLentAs work.old work.new }
+    ensures wiped { WorkWiped work.old work.new }
 {
-    zero_sizes(nums);
-    zero_floats(biases);
-    zero_numbers(wires);
-    zero_floats(coefs);
+    work.nums.fill(0);
+    work.biases.fill(0.0);
+    work.wires.fill(0);
+    work.coefs.fill(0.0);
 }
 
 // ---- the plan's lists
 
-// How many leaf slots and cursor cells there are.
-#[derive(Clone, Copy)]
-pub struct Listed {
-    pub leaves: usize,
-    pub cursors: usize,
-}
-
-pub fn write_lists(nums: &mut [u32], kinds: &[u8], counts: &[u16]) -> Listed
-    requires { 384 ≤ length nums.old }
-    ensures nums_after { nums.new ≡ listed_in nums.old kinds.now counts.now }
-    ensures leaves_value { (result.leaves ≡ length (leaves_of kinds.now)) × (result.cursors ≡ length (cursors_of kinds.now)) }
+// Writes them, and answers how long they are.
+#[tactic(auto, using(crate::proofs::Lists::leaves_few, crate::proofs::Lists::cursors_few))]
+pub fn write_lists(storage: &mut Storage, kinds: &[u8], counts: &[u16]) -> Plan
+    requires { 384 ≤ length storage.old.nums.now }
+    ensures lent { LentAs storage.old storage.new }
+    ensures listed { storage.new.nums.now ≡ listed_in storage.old.nums.now kinds.now counts.now }
+    ensures kept { (storage.new.biases.now ≡ storage.old.biases.now)
+        × (storage.new.wires.now ≡ storage.old.wires.now) × (storage.new.coefs.now ≡ storage.old.coefs.now) }
+    ensures plan { result ≡ plan_of kinds.now }
+    ensures few { (result.cursors ≤ 128) × (result.leaves ≤ 128) }
 {
-    let leaves = plan::leaf_list(kinds, &mut nums[0..128]);
-    let cursors = plan::cursor_list(kinds, &mut nums[128..256]);
-    let reports = plan::report_order(counts, &mut nums[256..384]);
-    Listed { leaves, cursors }
+    let leaves = plan::leaf_list(kinds, &mut storage.nums[Nums::LEAVES..Nums::CURSORS]);
+    let cursors = plan::cursor_list(kinds, &mut storage.nums[Nums::CURSORS..Nums::REPORT]);
+    plan::report_order(counts, &mut storage.nums[Nums::REPORT..Nums::OUTPUTS]);
+    Plan {
+        nodes: kinds.len(),
+        cursors,
+        leaves,
+    }
 }
 
 // ---- the end of compile
 
 // A refusal leaves all lent circuit storage zero.
-fn refuse(
-    nums: &mut [u32],
-    biases: &mut [f32],
-    wires: &mut [u32],
-    coefs: &mut [f32],
-    cause: Cause,
-) -> Compiled
-    ensures { outcome result nums.new biases.new wires.new coefs.new
-        ≡ refused_in nums.old biases.old wires.old coefs.old cause }
+fn refuse(storage: &mut Storage, cause: Cause) -> Result<Counts, Refusal>
+    ensures lent { LentAs storage.old storage.new }
+    ensures outcome { outcome_in result storage.new
+        ≡ refused_in storage.old.nums.now storage.old.biases.now storage.old.wires.now storage.old.coefs.now cause }
 {
-    wipe(nums, biases, wires, coefs);
-    Compiled::Refused(Refusal { cause, place: 0 })
+    wipe(storage);
+    Err(Refusal { cause, place: 0 })
 }
 
 // "Then 8, 9, 10": what was built is counted, and refused or written. The lists are in place, and the slots for ops and terms are zero.
-pub fn settle(
-    nums: &mut [u32],
-    biases: &mut [f32],
-    wires: &mut [u32],
-    coefs: &mut [f32],
-    worknums: &[usize],
-    workbiases: &[f32],
-    workwires: &[u32],
-    workcoefs: &[f32],
-    ops: usize,
-    nodes: usize,
-    cursors: usize,
-    leaves: usize,
-) -> Compiled
-    requires whole { Whole worknums.now workbiases.now × Holds nums.old biases.old 0 × (ops ≤ ops_most) × (nodes ≤ 128) × (cursors ≤ 128) × (leaves ≤ 128) }
-    requires ops_inside { OpsInside (mem workwires.now workcoefs.now worknums.now workbiases.now) ops }
-    requires outputs_inside { OutputsInside (mem workwires.now workcoefs.now worknums.now workbiases.now) nodes (outputs_many nodes cursors) }
-    requires cursors_bound { all_lens worknums.now ops nodes cursors < 4294967296 }
-    ensures { outcome result nums.new biases.new wires.new coefs.new
-        ≡ settled_in nums.old biases.old wires.old coefs.old (mem workwires.now workcoefs.now worknums.now workbiases.now) ops nodes cursors leaves }
+#[tactic(auto, unfolding(crate::specs::Settle::settled_in, crate::specs::Settle::written_in))]
+pub fn settle(storage: &mut Storage, b: &Builder, plan: Plan) -> Result<Counts, Refusal>
+    requires holds { Holds storage.old 0 }
+    requires few { (b.now.ops ≤ ops_most) × (plan.nodes ≤ 128) × (plan.cursors ≤ 128) × (plan.leaves ≤ 128) }
+    requires ops_inside { OpsInside (memory b.now) b.now.ops }
+    requires outputs_inside { OutputsInside (memory b.now) plan.nodes (outputs_many plan.nodes plan.cursors) }
+    requires terms_few { all_lens b.now.nums.now b.now.ops plan.nodes plan.cursors < 4294967296 }
+    ensures lent { LentAs storage.old storage.new }
+    ensures outcome { outcome_in result storage.new
+        ≡ settled_in storage.old.nums.now storage.old.biases.now storage.old.wires.now storage.old.coefs.now
+        (memory b.now) b.now.ops plan.nodes plan.cursors plan.leaves }
 {
-    if wire::op_slots(nums.len(), biases.len()) < ops {
-        return refuse(nums, biases, wires, coefs, Cause::NoOpRoom);
+    if wire::op_slots(storage.nums.len(), storage.biases.len()) < b.ops {
+        return refuse(storage, Cause::NoOpRoom);
     }
-    let terms = crate::emit::count_terms(worknums, ops, nodes, cursors);
-    if wire::term_slots(wires.len(), coefs.len()) < terms {
-        return refuse(nums, biases, wires, coefs, Cause::NoTermRoom);
+    let terms = emit::count_terms(b, plan.nodes, plan.cursors);
+    if wire::term_slots(storage.wires.len(), storage.coefs.len()) < terms {
+        return refuse(storage, Cause::NoTermRoom);
     }
-    let written = crate::emit::emit(
-        nums, biases, wires, coefs, worknums, workbiases, workwires, workcoefs, ops, nodes, cursors,
-    );
-    let cells = nodes + cursors + 3 * leaves;
-    Compiled::Accepted(Counts {
-        nodes,
-        cursors,
-        leaves,
-        cells,
-        ops,
+    emit::emit(storage, b, plan.nodes, plan.cursors);
+    Ok(Counts {
+        nodes: plan.nodes,
+        cursors: plan.cursors,
+        leaves: plan.leaves,
+        cells: plan.cell_count(),
+        ops: b.ops,
         terms,
     })
 }

@@ -1,9 +1,10 @@
 -- The forms of a circuit that the table stands for, in the order in which they are counted and written.
-use Prim.Native.Nat.{ℕ, suc, ◌+◌, ◌-◌, ◌*◌, ◌/◌, ◌%◌, ◌<◌}
+use Prim.Native.Nat.{ℕ, suc, ◌+◌, ◌-◌, ◌*◌, ◌/◌, ◌%◌, ◌≤◌, ◌<◌}
 use native.Mathlib.Numerals.{add-one}
 use native.Mathlib.Omega.{arith}
 use mathlib.Core.Path.{◌≡◌, sym, ◌∙◌, subst}
 use mathlib.Core.List.{List, [], ◌∷◌, ◌++◌, reverse_aux, reverse}
+use borrow.Author.Tests.{le-leb, lt-leb}
 use lib.ListN.{length}
 use Rattle.wire.specs.Terms.{Affine}
 use Rattle.construct.specs.Builder.{Op}
@@ -12,8 +13,19 @@ use Rattle.builder_table.specs.Work.{Mem}
 use Rattle.builder_laws.specs.Table.{OpsAt}
 use Rattle.builder_table.specs.Slots.{next_cursor_from, ops_from}
 use Rattle.lower_emit.specs.Emit.{row_of, output_slot}
-use Rattle.lower_emit.proofs.Slots.{slot_past, slot_nodal}
 use Rattle.lower_emit_laws.specs.Emitted.{SlotIs, OutputsAt, CursorsAt}
+
+-- ---- the slots of the output forms
+
+slot_past : (nodes k : ℕ) → 6 * nodes ≤ k → next_cursor_from + (k - 6 * nodes) ≡ output_slot nodes k
+unfolding output_slot
+slot_past nodes k h = rw (le-leb (6 * nodes) k h)
+
+slot_nodal : (nodes k : ℕ) → k < 6 * nodes → row_of (k % 6) + k / 6 ≡ output_slot nodes k
+unfolding output_slot
+slot_nodal nodes k h = rw (lt-leb (6 * nodes) k h)
+
+-- ---- the forms
 
 module _ (m : Mem) (used : ℕ) where
   -- ops in order, from the k-th on

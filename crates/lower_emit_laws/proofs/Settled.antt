@@ -15,7 +15,7 @@ use Rattle.wire.specs.Terms.{Affine}
 use Rattle.wire.specs.Storage.{leaves_from, op_slots, term_slots}
 use Rattle.construct_floats.specs.Floats.{floats}
 use Rattle.construct.specs.Circuit.{Circuit, forms_of, op_count, term_count}
-use Rattle.compile.specs.declared.Compiled.{Compiled}
+use Rattle.std.specs.Prelude.{Ok, Err}
 use Rattle.compile.specs.Encode.{Lists, terms_of_all, list_nums, nums_of, biases_in, wires_of, coefs_of}
 use Rattle.compile.specs.Compile.{Lent, circuit_of, lists_of, refusal, stored, compile_tree}
 use Rattle.builder_table.specs.Work.{Stood}
@@ -70,7 +70,7 @@ module _ (l : Lent) (kinds counts : List ℕ) (s : Stood) (h : BuiltAs s (circui
       let t = terms_are s c (length kinds) (length (cursors_of kinds)) h in
       let e = emitted s c (length kinds) (length (cursors_of kinds)) h l.nums l.biases l.wires l.coefs (lists_of kinds counts) in
       let none : (cause : Cause) → refused_in (list_nums l.nums (lists_of kinds counts)) (replicate l.biases zero32) (replicate l.wires 0) (replicate l.coefs zero32) cause ≡ refusal l cause 0 =
-      λ cause i. outcome (Compiled.Refused (record { cause = cause; place = 0 })) (replicate (n i) 0) (replicate (b i) zero32) (replicate (w i) 0) (replicate (f i) zero32) in
+      λ cause i. outcome (Err (record { cause = cause; place = 0 })) (replicate (n i) 0) (replicate (b i) zero32) (replicate (w i) 0) (replicate (f i) zero32) in
       let k = length (cursors_of kinds) in
       let q = length (leaves_of kinds) in
       λ i.
@@ -78,4 +78,4 @@ module _ (l : Lent) (kinds counts : List ℕ) (s : Stood) (h : BuiltAs s (circui
       (none NoOpRoom i)
       (cond (ltb (term_slots (w i) (f i)) (t i))
       (none NoTermRoom i)
-      (outcome (Compiled.Accepted (record { nodes = length kinds; cursors = k; leaves = q; cells = length kinds + k + 3 * q; ops = o i; terms = t i })) (e i).nums (e i).biases (e i).wires (e i).coefs))
+      (outcome (Ok (record { nodes = length kinds; cursors = k; leaves = q; cells = length kinds + k + 3 * q; ops = o i; terms = t i })) (e i).nums (e i).biases (e i).wires (e i).coefs))

@@ -7,7 +7,8 @@ use Rattle.plan.specs.Plan.{leaves_of, cursors_of}
 use Rattle.construct.specs.Builder.{Op}
 use Rattle.construct.specs.Circuit.{Circuit, term_count}
 use Rattle.compile.specs.Compile.{circuit_of}
-use Rattle.builder_table.specs.Work.{Mem, ops_most, Stood}
+use Rattle.builder_table.specs.Whole.{ops_most}
+use Rattle.builder_table.specs.Work.{Mem, Stood}
 use Rattle.lower_passes.specs.Build.{build_in}
 use Rattle.lower_emit_laws.specs.Emitted.{CircuitAt}
 

@@ -4,57 +4,39 @@
 mod gates;
 mod stops;
 
-ghost use Rattle.std.specs.Prelude.{◌≡◌, ◌+◌, ◌≤◌, ◌<◌};
-ghost use Rattle.builder_table.specs.Work.{Whole, mem};
-ghost use Rattle.lower_passes.specs.Ordered.{ordains, ordered_in};
+ghost use Rattle.std.specs.Prelude.{◌+◌, ◌≤◌, ◌<◌};
+ghost use Rattle.builder_table.specs.Loans.{memory, standing};
+ghost use Rattle.lower_passes.specs.Loans.{Decides};
+ghost use Rattle.lower_passes.specs.Ordered.{ordered_in};
 
 use builder_table::Builder;
-use lower_passes::{Ordered, Picked};
+use lower_passes::Decision;
 use wire::Form;
 
-// The children's bits stand in the slots up to advance, other and run, the first child's on top; the children are given the rows from `row` on.
-pub fn lower_ordered(
-    wires: &mut [u32],
-    coefs: &mut [f32],
-    nums: &mut [usize],
-    biases: &mut [f32],
-    at: Builder,
-    cursor: Form,
-    advance: usize,
-    other: usize,
-    run: usize,
-    row: usize,
-    n: usize,
-) -> Ordered
-    requires { Whole nums.old biases.old × (n ≤ advance + 1) × (n ≤ other + 1) × (n ≤ run + 1) × (advance < 768) × (other < 768) × (run < 768) × (row + n ≤ 128) }
-    ensures { ordains wires.new coefs.new nums.new biases.new result
-        ≡ ordered_in (mem wires.old coefs.old nums.old biases.old) at cursor advance other run row n }
+// The slots where the children's bits stand, the first child's on top: of the status that the composite advances on, of the other finished status, of
+// running.
+#[derive(Clone, Copy)]
+pub struct Tops {
+    pub advance: usize,
+    pub other: usize,
+    pub run: usize,
+}
+
+// The n children are given the rows from `row` on.
+#[tactic(auto, unfolding(lower_passes::specs::Ordered::ordered_in))]
+pub fn lower_ordered(b: &mut Builder, cursor: Form, tops: Tops, row: usize, n: usize) -> Decision
+    requires { (n ≤ tops.advance + 1) × (n ≤ tops.other + 1) × (n ≤ tops.run + 1) × (tops.advance < 768) × (tops.other < 768) × (tops.run < 768)
+        × (row + n ≤ 128) }
+    ensures { Decides b.old b.new result (ordered_in (memory b.old) (standing b.old) cursor tops.advance tops.other tops.run row n) }
 {
-    let a = crate::gates::gates(wires, coefs, nums, biases, at, cursor, advance, n);
-    let b = crate::gates::clears(wires, coefs, nums, biases, a, n);
-    let d = crate::stops::stops(wires, coefs, nums, biases, b, row, n);
-    let sum = d.form;
-    let u = d.builder;
-    let zero = Form::constant(0.0);
-    let none = Picked {
-        other: zero,
-        run: zero,
-        cursor: zero,
-        builder: u,
-    };
-    let p = crate::stops::picks(wires, coefs, nums, biases, none, other, run, n);
-    let other = p.other;
-    let runs = p.run;
-    let cursor = p.cursor;
-    let v = p.builder;
-    let s = builder_table::one_minus(wires, coefs, v, sum);
-    let advance = s.form;
-    let w = s.builder;
-    Ordered {
-        advance,
-        other,
-        run: runs,
-        cursor,
-        builder: w,
+    gates::gates(b, cursor, tops.advance, n);
+    gates::clears(b, n);
+    let stops = stops::stops(b, row, n);
+    let picks = stops::picks(b, tops.other, tops.run, n);
+    Decision {
+        advance: b.one_minus(stops),
+        other: picks.other,
+        run: picks.run,
+        cursor: picks.cursor,
     }
 }

@@ -1,180 +1,103 @@
 // The last two loops of lower_ordered: which children are reached, at which the walk stops, and the stop's status with its position. A stop is one child
 // at most, so every sum over stops is a bit.
-ghost use Rattle.std.specs.Prelude.{◌≡◌, List, ℕ, ◌+◌, ◌≤◌, ◌<◌, Float};
+ghost use Rattle.std.specs.Prelude.{◌+◌, ◌≤◌, ◌<◌};
 ghost use Rattle.exact.specs.Whole.{zero32};
 ghost use Rattle.wire.specs.Terms.{constant_form};
-ghost use Rattle.builder_table.specs.Work.{Whole, mem, ended, stood};
-ghost use Rattle.lower_passes.specs.Stops.{chosen, reach_in, stop_in, stops_in, run_in, pick_in, picks_in};
+ghost use Rattle.builder_table.specs.Loans.{memory, standing, Makes, Leaves};
+ghost use Rattle.lower_passes.specs.Loans.{Chooses};
+ghost use Rattle.lower_passes.specs.Marks.{picked_at};
+ghost use Rattle.lower_passes.specs.Ordered.{no_pick};
+ghost use Rattle.lower_passes.specs.Stops.{reach_in, stop_in, stops_in, run_in, pick_in, picks_in};
 
 use builder::Bit;
-use builder_table::{Builder, Made, Table};
-use lower_passes::Picked;
+use builder_table::{Builder, Table};
+use lower_passes::Picks;
 use wire::Form;
 
-fn reach_one(
-    wires: &mut [u32],
-    coefs: &mut [f32],
-    nums: &mut [usize],
-    biases: &mut [f32],
-    at: Builder,
-    k: usize,
-    row: usize,
-) -> Builder
-    requires { Whole nums.old biases.old × (k < 128) × (row < 128) }
-    ensures { stood wires.new coefs.new nums.new biases.new result
-        ≡ reach_in (mem wires.old coefs.old nums.old biases.old) at k row }
+// The answer is the sum of all stops.
+#[tactic(auto, unfolding(lower_passes::specs::Stops::stops_in))]
+pub fn stops(b: &mut Builder, row: usize, n: usize) -> Form
+    requires { row + n ≤ 128 }
+    ensures { Makes b.old b.new result (stops_in (memory b.old) (standing b.old) (constant_form zero32) row 0 n) }
 {
-    let clear = builder_table::load(nums, biases, Table::CLEAR + k);
-    let before = builder_table::load(nums, biases, Table::BEFORE + k);
-    let n = builder::not(wires, coefs, at, Bit(before));
-    let bit = n.bit;
-    let u = n.builder;
-    let r = builder::and(wires, coefs, nums, biases, u, Bit(clear), bit);
-    let reach = r.bit;
-    let f = reach.0;
-    builder_table::save(nums, biases, Table::REACH + row, f);
-    r.builder
-}
-
-fn stop_one(
-    wires: &mut [u32],
-    coefs: &mut [f32],
-    nums: &mut [usize],
-    biases: &mut [f32],
-    at: Builder,
-    sum: Form,
-    k: usize,
-) -> Made
-    requires { Whole nums.old biases.old × (k < 128) }
-    ensures { ended wires.new coefs.new nums.new biases.new result.builder result.form
-        ≡ stop_in (mem wires.old coefs.old nums.old biases.old) at sum k }
-{
-    let clear = builder_table::load(nums, biases, Table::CLEAR + k);
-    let blocked = builder_table::load(nums, biases, Table::BLOCKED + k);
-    let s = builder::and(wires, coefs, nums, biases, at, Bit(clear), Bit(blocked));
-    let bit = s.bit;
-    let f = bit.0;
-    let u = s.builder;
-    builder_table::save(nums, biases, Table::STOPS + k, f);
-    builder_table::plus(wires, coefs, u, sum, f)
-}
-
-// The answer's form is the sum of all stops.
-pub fn stops(
-    wires: &mut [u32],
-    coefs: &mut [f32],
-    nums: &mut [usize],
-    biases: &mut [f32],
-    at: Builder,
-    row: usize,
-    n: usize,
-) -> Made
-    requires { Whole nums.old biases.old × (row + n ≤ 128) }
-    ensures { ended wires.new coefs.new nums.new biases.new result.builder result.form
-        ≡ stops_in (mem wires.old coefs.old nums.old biases.old) at (constant_form zero32) row 0 n }
-{
-    let mut room = at;
     let mut sum = Form::constant(0.0);
-    let mut k = 0;
-    while k < n {
-        builder_table::save(nums, biases, Table::AFTER_STOP + (row + k), sum);
-        let next = reach_one(wires, coefs, nums, biases, room, k, row + k);
-        let s = stop_one(wires, coefs, nums, biases, next, sum, k);
-        sum = s.form;
-        room = s.builder;
-        k += 1;
+    for k in 0..n {
+        b.save(Table::AFTER_STOP + (row + k), sum);
+        reach_one(b, k, row + k);
+        sum = stop_one(b, sum, k);
     }
-    Made {
-        form: sum,
-        builder: room,
-    }
+    sum
 }
 
-fn add_run(
-    wires: &mut [u32],
-    coefs: &mut [f32],
-    at: Builder,
-    run: Form,
-    cursor: Form,
-    bit: Form,
-    k: usize,
-    other: Form,
-) -> Picked
+#[tactic(auto, unfolding(lower_passes::specs::Stops::reach_in))]
+fn reach_one(b: &mut Builder, k: usize, row: usize)
+    requires { (k < 128) × (row < 128) }
+    ensures { Leaves b.old b.new (reach_in (memory b.old) (standing b.old) k row) }
+{
+    let clear = Bit(b.load(Table::CLEAR + k));
+    let before = Bit(b.load(Table::BEFORE + k));
+    let ahead = builder::not(b, before);
+    let reach = builder::and(b, clear, ahead);
+    b.save(Table::REACH + row, reach.0);
+}
+
+// The answer is the sum of the stops with this child's.
+#[tactic(auto, unfolding(lower_passes::specs::Stops::stop_in))]
+fn stop_one(b: &mut Builder, sum: Form, k: usize) -> Form
     requires { k < 128 }
-    ensures { (nums : List ℕ) (biases : List Float) → chosen wires.new coefs.new nums biases result
-        ≡ run_in (mem wires.old coefs.old nums biases) at run cursor bit k other }
+    ensures { Makes b.old b.new result (stop_in (memory b.old) (standing b.old) sum k) }
 {
-    let r = builder_table::plus(wires, coefs, at, run, bit);
-    let runs = r.form;
-    let u = r.builder;
-    let x = builder_table::scaled(wires, coefs, u, bit, k as f32);
-    let times = x.form;
-    let v = x.builder;
-    let c = builder_table::plus(wires, coefs, v, cursor, times);
-    let curs = c.form;
-    let w = c.builder;
-    Picked {
-        other,
-        run: runs,
-        cursor: curs,
-        builder: w,
-    }
+    let clear = Bit(b.load(Table::CLEAR + k));
+    let blocked = Bit(b.load(Table::BLOCKED + k));
+    let stop = builder::and(b, clear, blocked);
+    b.save(Table::STOPS + k, stop.0);
+    b.plus(sum, stop.0)
 }
 
-fn pick_one(
-    wires: &mut [u32],
-    coefs: &mut [f32],
-    nums: &mut [usize],
-    biases: &mut [f32],
-    p: Picked,
-    k: usize,
-    finished: Form,
-    running: Form,
-) -> Picked
-    requires { Whole nums.old biases.old × (k < 128) }
-    ensures { chosen wires.new coefs.new nums.new biases.new result
-        ≡ pick_in (mem wires.old coefs.old nums.old biases.old) p k finished running }
+// The children's bits stand in the n slots up to `others` and up to `runs`.
+#[tactic(auto, unfolding(lower_passes::specs::Stops::picks_in))]
+pub fn picks(b: &mut Builder, others: usize, runs: usize, n: usize) -> Picks
+    requires { (n ≤ 128) × (n ≤ others + 1) × (n ≤ runs + 1) × (others < 2560) × (runs < 2560) }
+    ensures { Chooses b.old b.new result (picks_in (memory b.old) (no_pick (standing b.old)) others runs 0 n) }
 {
-    let at = p.builder;
-    let run = p.run;
-    let cursor = p.cursor;
-    let stop = builder_table::load(nums, biases, Table::STOPS + k);
-    let a = builder::and(wires, coefs, nums, biases, at, Bit(stop), Bit(finished));
-    let abit = a.bit;
-    let af = abit.0;
-    let u = a.builder;
-    let b = builder::and(wires, coefs, nums, biases, u, Bit(stop), Bit(running));
-    let bbit = b.bit;
-    let bf = bbit.0;
-    let v = b.builder;
-    let others = p.other;
-    let o = builder_table::plus(wires, coefs, v, others, af);
-    let of = o.form;
-    let w = o.builder;
-    add_run(wires, coefs, w, run, cursor, bf, k, of)
+    let none = Form::constant(0.0);
+    let mut picks = Picks {
+        other: none,
+        run: none,
+        cursor: none,
+    };
+    for k in 0..n {
+        let finished = Bit(b.load(others - k));
+        let running = Bit(b.load(runs - k));
+        picks = pick_one(b, picks, k, finished, running);
+    }
+    picks
 }
 
-pub fn picks(
-    wires: &mut [u32],
-    coefs: &mut [f32],
-    nums: &mut [usize],
-    biases: &mut [f32],
-    start: Picked,
-    others: usize,
-    runs: usize,
-    n: usize,
-) -> Picked
-    requires { Whole nums.old biases.old × (n ≤ 128) × (n ≤ others + 1) × (n ≤ runs + 1) × (others < 2560) × (runs < 2560) }
-    ensures { chosen wires.new coefs.new nums.new biases.new result
-        ≡ picks_in (mem wires.old coefs.old nums.old biases.old) start others runs 0 n }
+#[tactic(auto, unfolding(lower_passes::specs::Stops::pick_in))]
+fn pick_one(b: &mut Builder, picks: Picks, k: usize, finished: Bit, running: Bit) -> Picks
+    requires { k < 128 }
+    ensures { Chooses b.old b.new result (pick_in (memory b.old) (picked_at (standing b.old) picks) k finished.0 running.0) }
 {
-    let mut p = start;
-    let mut k = 0;
-    while k < n {
-        let finished = builder_table::load(nums, biases, others - k);
-        let running = builder_table::load(nums, biases, runs - k);
-        p = pick_one(wires, coefs, nums, biases, p, k, finished, running);
-        k += 1;
+    let stop = Bit(b.load(Table::STOPS + k));
+    let finishes = builder::and(b, stop, finished);
+    let runs = builder::and(b, stop, running);
+    let other = b.plus(picks.other, finishes.0);
+    add_run(b, Picks { other, ..picks }, runs, k)
+}
+
+// A stop that runs at child k adds k to the cursor.
+#[tactic(auto, using(exact::proofs::Whole::of_nat_diff), unfolding(lower_passes::specs::Stops::run_in))]
+fn add_run(b: &mut Builder, picks: Picks, runs: Bit, k: usize) -> Picks
+    requires { k < 128 }
+    ensures { Chooses b.old b.new result (run_in (memory b.old) (standing b.old) picks.run picks.cursor runs.0 k picks.other) }
+{
+    let run = b.plus(picks.run, runs.0);
+    let position = b.scaled(runs.0, k as f32);
+    let cursor = b.plus(picks.cursor, position);
+    Picks {
+        run,
+        cursor,
+        ..picks
     }
-    p
 }

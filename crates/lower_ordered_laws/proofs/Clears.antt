@@ -9,8 +9,7 @@ use Rattle.wire.specs.Terms.{Affine}
 use Rattle.construct.specs.Builder.{Op, is_zero}
 use Rattle.construct.specs.Lower.{GatedChild, ClearedChild, Many, clears}
 use Rattle.construct_floats.specs.Floats.{floats}
-use Rattle.builder_table.specs.declared.Builder.{Builder}
-use Rattle.builder_table.specs.Work.{Mem, Ended, loaded, Stood}
+use Rattle.builder_table.specs.Work.{Standing, Mem, Ended, loaded, Stood}
 use Rattle.builder_laws.specs.Table.{Stands}
 use Rattle.builder.specs.Bits.{is_zero_in}
 use Rattle.builder_table.specs.Slots.{blocked_from, clear_from}
@@ -41,12 +40,12 @@ module _ (n : ℕ) where
 -- ---- one child
 
 -- one slot is written, and stands for x; the answer stands for y
-pub record Summed (K : ℕ → Type 0) (m : Mem) (b : Builder) (e : Ended) (j : ℕ) (x y : Affine) (os : List (Op Affine)) (need more : ℕ) : Type 0 where
+pub record Summed (K : ℕ → Type 0) (m : Mem) (b : Standing) (e : Ended) (j : ℕ) (x y : Affine) (os : List (Op Affine)) (need more : ℕ) : Type 0 where
   pub runs : Runs K m b e.mem e.builder os need more
   pub slot : Stands e.mem e.builder (loaded e.mem j) x
   pub form : Stands e.mem e.builder e.form y
 
-clear_one : {n : ℕ} {K : ℕ → Type 0} {m : Mem} {b : Builder} {os : List (Op Affine)} {earlier : Form} {pre x : Affine} (k : ℕ)
+clear_one : {n : ℕ} {K : ℕ → Type 0} {m : Mem} {b : Standing} {os : List (Op Affine)} {earlier : Form} {pre x : Affine} (k : ℕ)
     → Ready n m b os → Stands m b earlier pre → Stands m b (loaded m (blocked_from + k)) x → k < 128 → (K (clear_from + k) → ⊥)
     → let z = is_zero floats n pre os in
     Summed K m b (clear_in m b earlier k) (clear_from + k) z.form (floats.plus pre x) z.ops (floats.terms pre + 1 + plus_use floats pre x) 1
@@ -67,11 +66,11 @@ clear_one {K = K} {m} {b} {earlier = earlier} k r hp hx l p =
 
 -- ---- all children
 
-pub record ClearsRun (m : Mem) (b : Builder) (k count need : ℕ) (e : Stood) (o : Many Affine (ClearedChild Affine)) : Type 0 where
+pub record ClearsRun (m : Mem) (b : Standing) (k count need : ℕ) (e : Stood) (o : Many Affine (ClearedChild Affine)) : Type 0 where
   pub runs : Runs (Not (clear_from + k) (clear_from + k + count)) m b e.mem e.builder o.ops need count
   pub clear : Rows e.mem e.builder (clear_from + k) (clear_bits o.items)
 
-pub clears_run : {n : ℕ} {m : Mem} {b : Builder} {os : List (Op Affine)} {earlier : Form} {pre : Affine} (k : ℕ) (xs : List (GatedChild Affine))
+pub clears_run : {n : ℕ} {m : Mem} {b : Standing} {os : List (Op Affine)} {earlier : Form} {pre : Affine} (k : ℕ) (xs : List (GatedChild Affine))
     → Ready n m b os → Stands m b earlier pre → Rows m b (blocked_from + k) (blockeds xs) → k + length xs ≤ 128
     → ClearsRun m b k (length xs) (clears_use floats n pre xs) (clears_in m b earlier k (length xs)) (clears floats n pre xs os)
 unfolding clears clears_in clears_use

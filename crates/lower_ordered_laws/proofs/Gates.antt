@@ -10,8 +10,7 @@ use Rattle.wire.specs.Terms.{Affine}
 use Rattle.construct.specs.Builder.{Op, at_least, or, not'}
 use Rattle.construct.specs.Lower.{StatusBits, GatedChild, Many, gates}
 use Rattle.construct_floats.specs.Floats.{number, floats}
-use Rattle.builder_table.specs.declared.Builder.{Builder}
-use Rattle.builder_table.specs.Work.{Mem, loaded, Stood}
+use Rattle.builder_table.specs.Work.{Standing, Mem, loaded, Stood}
 use Rattle.builder_laws.specs.Table.{Stands}
 use Rattle.builder.specs.Bits.{at_least_in}
 use Rattle.builder_table.specs.Slots.{before_from, blocked_from}
@@ -45,11 +44,11 @@ module _ (n : ℕ) (c : Affine) where
 -- ---- one child
 
 -- one slot is written, and stands for x
-pub record Filled (K : ℕ → Type 0) (m : Mem) (b : Builder) (e : Stood) (j : ℕ) (x : Affine) (os : List (Op Affine)) (need more : ℕ) : Type 0 where
+pub record Filled (K : ℕ → Type 0) (m : Mem) (b : Standing) (e : Stood) (j : ℕ) (x : Affine) (os : List (Op Affine)) (need more : ℕ) : Type 0 where
   pub runs : Runs K m b e.mem e.builder os need more
   pub slot : Stands e.mem e.builder (loaded e.mem j) x
 
-block_one : {n : ℕ} {K : ℕ → Type 0} {m : Mem} {b : Builder} {os : List (Op Affine)} {f g : Form} {x y : Affine} (k : ℕ)
+block_one : {n : ℕ} {K : ℕ → Type 0} {m : Mem} {b : Standing} {os : List (Op Affine)} {f g : Form} {x y : Affine} (k : ℕ)
     → Ready n m b os → Stands m b f x → Stands m b g y → k < 128 → (K (blocked_from + k) → ⊥)
     → let pass = or floats n x y os in
     Filled K m b (block_in m b f g k) (blocked_from + k) (not' floats pass.form) pass.ops (or_use floats x y + floats.terms pass.form) 1
@@ -65,12 +64,12 @@ block_one {K = K} k r hx hy l p =
       slot = slot_filled r2 (blocked_from + k) (omega arith) block.form;
     }
 
-record Gated (K : ℕ → Type 0) (m : Mem) (b : Builder) (e : Stood) (k : ℕ) (x y : Affine) (os : List (Op Affine)) (need : ℕ) : Type 0 where
+record Gated (K : ℕ → Type 0) (m : Mem) (b : Standing) (e : Stood) (k : ℕ) (x y : Affine) (os : List (Op Affine)) (need : ℕ) : Type 0 where
   runs : Runs K m b e.mem e.builder os need 3
   before : Stands e.mem e.builder (loaded e.mem (before_from + k)) x
   blocked : Stands e.mem e.builder (loaded e.mem (blocked_from + k)) y
 
-gate_one : {n : ℕ} {K : ℕ → Type 0} {m : Mem} {b : Builder} {os : List (Op Affine)} {cursor t : Form} {c x : Affine} (k : ℕ)
+gate_one : {n : ℕ} {K : ℕ → Type 0} {m : Mem} {b : Standing} {os : List (Op Affine)} {cursor t : Form} {c x : Affine} (k : ℕ)
     → Ready n m b os → Stands m b cursor c → Stands m b t x → k < 128 → (K (before_from + k) → ⊥) → (K (blocked_from + k) → ⊥)
     → let later = at_least floats n c (k + 1) os in
     let pass = or floats n later.form x later.ops in
@@ -97,12 +96,12 @@ gate_one {n} {K} {m} {b} {os} {cursor} {t} {c} {x} k r hc ht l p q =
 abbrev pub NotGates : ℕ → ℕ → ℕ → Type 0
 NotGates k count j = Not (before_from + k) (before_from + k + count) j × Not (blocked_from + k) (blocked_from + k + count) j
 
-pub record GatesRun (m : Mem) (b : Builder) (k count need : ℕ) (e : Stood) (o : Many Affine (GatedChild Affine)) : Type 0 where
+pub record GatesRun (m : Mem) (b : Standing) (k count need : ℕ) (e : Stood) (o : Many Affine (GatedChild Affine)) : Type 0 where
   pub runs : Runs (NotGates k count) m b e.mem e.builder o.ops need (3 * count)
   pub before : Rows e.mem e.builder (before_from + k) (befores o.items)
   pub blocked : Rows e.mem e.builder (blocked_from + k) (blockeds o.items)
 
-pub gates_run : {n : ℕ} {m : Mem} {b : Builder} {os : List (Op Affine)} {cursor : Form} {c : Affine} (top k : ℕ) (ts : List (StatusBits Affine))
+pub gates_run : {n : ℕ} {m : Mem} {b : Standing} {os : List (Op Affine)} {cursor : Form} {c : Affine} (top k : ℕ) (ts : List (StatusBits Affine))
     → Ready n m b os → Stands m b cursor c → Falls m b (top - k) (ss ts) → top < before_from → k + length ts ≤ 128
     → GatesRun m b k (length ts) (gates_use floats n c k ts os) (gates_in m b cursor top k (length ts)) (gates floats n c k ts os)
 unfolding gates gates_in gates_use

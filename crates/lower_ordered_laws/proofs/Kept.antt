@@ -5,8 +5,7 @@ use mathlib.Core.List.{List, [], ◌∷◌, map}
 use lib.ListN.{length, length-map}
 use Rattle.wire.specs.Terms.{Affine}
 use Rattle.construct.specs.Lower.{Flat, leaf, fixed, invert, force, ordered, StatusBits, ArbitratedChild, Arbitration, Entry, NodeReach}
-use Rattle.builder_table.specs.declared.Builder.{Builder}
-use Rattle.builder_table.specs.Work.{Mem}
+use Rattle.builder_table.specs.Work.{Standing, Mem}
 use Rattle.lower_room.proofs.Uses.{kids_of}
 use Rattle.builder_laws.proofs.Running.{Keeps}
 use Rattle.builder_laws.proofs.Runs.{slot_kept, rows_kept, stack_kept}
@@ -26,7 +25,7 @@ ArbitrationSlots K i = K (raw_success_from + i) × K (raw_failure_from + i) × K
 abbrev pub OutSlots : (ℕ → Type 0) → ℕ → Type 0
 OutSlots K i = K (raw_success_from + i) × K (raw_failure_from + i) × K (raw_running_from + i) × K (reached_from + i) × K (halted_from + i) × K (untouched_from + i)
 
-module _ {K : ℕ → Type 0} {m : Mem} {b : Builder} {m' : Mem} {b' : Builder} (g : Keeps K m b m' b') where
+module _ {K : ℕ → Type 0} {m : Mem} {b : Standing} {m' : Mem} {b' : Standing} (g : Keeps K m b m' b') where
   pub raw_kept : {t : StatusBits Affine} (i : ℕ) → i < 128 → K (raw_success_from + i) → K (raw_failure_from + i) → K (raw_running_from + i) → RawAt m b i t → RawAt m' b' i t
   raw_kept i l s f r h = record { success = slot_kept g (raw_success_from + i) (omega arith) s h.success; failure = slot_kept g (raw_failure_from + i) (omega arith) f h.failure; running = slot_kept g (raw_running_from + i) (omega arith) r h.running }
 

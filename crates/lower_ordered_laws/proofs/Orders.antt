@@ -7,8 +7,8 @@ use Rattle.wire.specs.Terms.{Affine}
 use Rattle.construct.specs.Builder.{Op}
 use Rattle.construct.specs.Lower.{StatusBits, ArbitratedChild, Ordered, lower_seq}
 use Rattle.construct_floats.specs.Floats.{floats}
-use Rattle.builder_table.specs.declared.Builder.{Builder}
-use Rattle.builder_table.specs.Work.{Mem, Whole}
+use Rattle.builder_table.specs.Work.{Standing, Mem}
+use Rattle.builder_table.specs.Whole.{Whole}
 use Rattle.builder_laws.specs.Table.{Ops, Stands}
 use Rattle.builder_table.specs.Slots.{before_from, reach_from, after_stop_from}
 use Rattle.lower_room.proofs.Uses.{seq_use}
@@ -36,7 +36,7 @@ reaches ks = map (λ (k : ArbitratedChild Affine). k.reach) ks
 abbrev pub afters : List (ArbitratedChild Affine) → List Affine
 afters ks = map (λ (k : ArbitratedChild Affine). k.after_stop) ks
 
-pub record OrderedRuns (m : Mem) (b : Builder) (row n need : ℕ) (e : Ordains) (o : Ordered Affine) : Type 0 where
+pub record OrderedRuns (m : Mem) (b : Standing) (row n need : ℕ) (e : Ordains) (o : Ordered Affine) : Type 0 where
   pub runs : Runs (Apart row n) m b e.mem e.ordered.builder o.ops need (8 * n)
   pub advance : Stands e.mem e.ordered.builder e.ordered.advance o.status.success
   pub other : Stands e.mem e.ordered.builder e.ordered.other o.status.failure
@@ -47,7 +47,7 @@ pub record OrderedRuns (m : Mem) (b : Builder) (row n need : ℕ) (e : Ordains) 
 
 abbrev pub OrderedLaw : Type 0
 OrderedLaw =
-    (m : Mem) (b : Builder) (cursor : Form) (advance other run row : ℕ) (c : Affine) (ts : List (StatusBits Affine)) (os : List (Op Affine))
+    (m : Mem) (b : Standing) (cursor : Form) (advance other run row : ℕ) (c : Affine) (ts : List (StatusBits Affine)) (os : List (Op Affine))
     → Whole m.nums m.biases → Ops m b os → Stands m b cursor c
     → Falls m b advance (ss ts) → Falls m b other (fs ts) → Falls m b run (rs ts)
     → advance < 768 → other < 768 → run < 768 → row + length ts ≤ 128

@@ -7,12 +7,11 @@ use Rattle.wire.specs.Terms.{Affine}
 use Rattle.construct.specs.Lower.{Flat, leaf, fixed, invert, force, ordered, StatusBits, Arbitration, Entry, NodeReach}
 use Rattle.construct.specs.Lower as L
 use Rattle.construct_floats.specs.Floats.{floats}
-use Rattle.builder_table.specs.declared.Builder.{Builder}
-use Rattle.builder_table.specs.Work.{Mem, loaded}
+use Rattle.builder_table.specs.Work.{Standing, Mem, loaded}
 use Rattle.builder_laws.specs.Table.{Ops, Stands}
 use Rattle.lower_room.proofs.Uses.{kids_of}
 use Rattle.builder_laws.proofs.Running.{Rows, StackAt}
-use Rattle.lower_passes.specs.declared.Up.{Up}
+use Rattle.lower_passes.specs.Marks.{Up}
 use Rattle.lower_passes.specs.Arbitrate.{flat_at}
 use Rattle.builder_table.specs.Slots.{reach_from, after_stop_from, raw_success_from, raw_failure_from, raw_running_from, stack_success_from, stack_failure_from, stack_running_from, arbitrated_from, reached_from, halted_from, untouched_from, entry_reached_from, entry_called_from}
 use Rattle.lower_ordered_laws.proofs.Orders.{ss, fs, rs, reaches, afters}
@@ -54,7 +53,7 @@ abbrev pub NodesAt : List ℕ → List ℕ → ℕ → List Flat → Type 0
 NodesAt kinds counts i [] = Unit {0}
 NodesAt kinds counts i (n ∷ ns) = (flat_at kinds counts i ≡ n) × NodesAt kinds counts (suc i) ns
 
-module _ (m : Mem) (b : Builder) where
+module _ (m : Mem) (b : Standing) where
   -- what node i would return
   pub record RawAt (i : ℕ) (t : StatusBits Affine) : Type 0 where
     pub success : Stands m b (loaded m (raw_success_from + i)) t.success

@@ -11,10 +11,9 @@ use Rattle.construct.specs.Builder.{Op, and}
 use Rattle.construct.specs.Lower.{ArbitratedChild, picks}
 use Rattle.construct.specs.Lower as L
 use Rattle.construct_floats.specs.Floats.{number, floats}
-use Rattle.builder_table.specs.declared.Builder.{Builder}
-use Rattle.builder_table.specs.Work.{Mem, loaded}
+use Rattle.builder_table.specs.Work.{Standing, Mem, loaded}
 use Rattle.builder_laws.specs.Table.{Stands}
-use Rattle.lower_passes.specs.declared.Picked.{Picked}
+use Rattle.lower_passes.specs.Marks.{Picked}
 use Rattle.builder_table.specs.Slots.{stops_from, ops_from}
 use Rattle.lower_passes.specs.Stops.{Chosen, run_in, pick_in, picks_in}
 use Rattle.lower_room.proofs.Uses.{plus_use, picks_use}
@@ -30,13 +29,13 @@ abbrev pub runnings : List (ArbitratedChild Affine) → List Affine
 runnings xs = map (λ (x : ArbitratedChild Affine). x.status.running) xs
 
 -- every slot stays; the three sums and the ops are the construction's
-pub record PicksRun (m : Mem) (b : Builder) (e : Chosen) (o : L.Picked Affine) (need more : ℕ) : Type 0 where
+pub record PicksRun (m : Mem) (b : Standing) (e : Chosen) (o : L.Picked Affine) (need more : ℕ) : Type 0 where
   pub runs : Runs (λ j. Unit {0}) m b e.mem e.picked.builder o.ops need more
   pub other : Stands e.mem e.picked.builder e.picked.other o.other
   pub run : Stands e.mem e.picked.builder e.picked.run o.run
   pub cursor : Stands e.mem e.picked.builder e.picked.cursor o.cursor
 
-run_one : {n : ℕ} {m : Mem} {b : Builder} {os : List (Op Affine)} {run cur bit other : Form} {o r c x : Affine} (k : ℕ)
+run_one : {n : ℕ} {m : Mem} {b : Standing} {os : List (Op Affine)} {run cur bit other : Form} {o r c x : Affine} (k : ℕ)
     → Ready n m b os → Stands m b run r → Stands m b cur c → Stands m b bit x → Stands m b other o
     → PicksRun m b (run_in m b run cur bit k other) (record { other = o; run = floats.plus r x; cursor = floats.plus c (floats.scaled k x); ops = os }) (plus_use floats r x + floats.terms x + plus_use floats c (floats.scaled k x)) 0
 unfolding run_in

@@ -10,8 +10,7 @@ use Rattle.wire.specs.Terms.{Affine}
 use Rattle.construct.specs.Builder.{Op, and, not'}
 use Rattle.construct.specs.Lower.{StatusBits, ClearedChild, ArbitratedChild, Many, stops, total}
 use Rattle.construct_floats.specs.Floats.{floats}
-use Rattle.builder_table.specs.declared.Builder.{Builder}
-use Rattle.builder_table.specs.Work.{Mem, Ended, loaded, saved}
+use Rattle.builder_table.specs.Work.{Standing, Mem, Ended, loaded, saved}
 use Rattle.builder_laws.specs.Table.{Stands}
 use Rattle.builder_table.specs.Slots.{before_from, blocked_from, clear_from, stops_from, reach_from, after_stop_from}
 use Rattle.lower_passes.specs.Stops.{reach_in, stop_in, stops_in}
@@ -49,7 +48,7 @@ module _ (n : ℕ) where
 
 -- ---- one child
 
-reach_one : {n : ℕ} {K : ℕ → Type 0} {m : Mem} {b : Builder} {os : List (Op Affine)} {before clear : Affine} (k row : ℕ)
+reach_one : {n : ℕ} {K : ℕ → Type 0} {m : Mem} {b : Standing} {os : List (Op Affine)} {before clear : Affine} (k row : ℕ)
     → Ready n m b os → Stands m b (loaded m (before_from + k)) before → Stands m b (loaded m (clear_from + k)) clear → row < 128 → (K (reach_from + row) → ⊥)
     → let r = and floats n clear (not' floats before) os in
     Filled K m b (record { mem = (reach_in m b k row).mem; builder = (reach_in m b k row).builder }) (reach_from + row) r.form r.ops (floats.terms before + 1) 1
@@ -65,7 +64,7 @@ reach_one {K = K} k row r hb hc l p =
       slot = slot_filled r2 (reach_from + row) (omega arith) reach.form;
     }
 
-stop_one : {n : ℕ} {K : ℕ → Type 0} {m : Mem} {b : Builder} {os : List (Op Affine)} {sum : Form} {acc clear blocked : Affine} (k : ℕ)
+stop_one : {n : ℕ} {K : ℕ → Type 0} {m : Mem} {b : Standing} {os : List (Op Affine)} {sum : Form} {acc clear blocked : Affine} (k : ℕ)
     → Ready n m b os → Stands m b sum acc → Stands m b (loaded m (clear_from + k)) clear → Stands m b (loaded m (blocked_from + k)) blocked → k < 128 → (K (stops_from + k) → ⊥)
     → let s = and floats n clear blocked os in
     Summed K m b (stop_in m b sum k) (stops_from + k) s.form (floats.plus acc s.form) s.ops (1 + plus_use floats acc s.form) 1
@@ -83,7 +82,7 @@ stop_one {K = K} k r ha hc hb l p =
     }
 
 -- the k-th child's part of a turn: three slots written, one after the other
-record Stopped (K : ℕ → Type 0) (m : Mem) (b : Builder) (e : Ended) (k row : ℕ) (r s a t : Affine) (os : List (Op Affine)) (need : ℕ) : Type 0 where
+record Stopped (K : ℕ → Type 0) (m : Mem) (b : Standing) (e : Ended) (k row : ℕ) (r s a t : Affine) (os : List (Op Affine)) (need : ℕ) : Type 0 where
   runs : Runs K m b e.mem e.builder os need 2
   reach : Stands e.mem e.builder (loaded e.mem (reach_from + row)) r
   stop : Stands e.mem e.builder (loaded e.mem (stops_from + k)) s
@@ -94,7 +93,7 @@ record Stopped (K : ℕ → Type 0) (m : Mem) (b : Builder) (e : Ended) (k row :
 abbrev But : ℕ → ℕ → ℕ → Type 0
 But k row j = (j ≡ stops_from + k → ⊥) × (j ≡ reach_from + row → ⊥) × (j ≡ after_stop_from + row → ⊥)
 
-turn : {n : ℕ} {m : Mem} {b : Builder} {os : List (Op Affine)} {sum : Form} {acc before blocked clear : Affine} (k row : ℕ)
+turn : {n : ℕ} {m : Mem} {b : Standing} {os : List (Op Affine)} {sum : Form} {acc before blocked clear : Affine} (k row : ℕ)
     → Ready n m b os → Stands m b sum acc → Stands m b (loaded m (before_from + k)) before → Stands m b (loaded m (blocked_from + k)) blocked → Stands m b (loaded m (clear_from + k)) clear
     → k < 128 → row < 128
     → let r = and floats n clear (not' floats before) os in
@@ -126,14 +125,14 @@ turn {sum = sum} k row r ha hb hd hc l l' =
 abbrev pub NotStops : ℕ → ℕ → ℕ → ℕ → Type 0
 NotStops row k count j = Not (stops_from + k) (stops_from + k + count) j × Not (reach_from + (row + k)) (reach_from + (row + k) + count) j × Not (after_stop_from + (row + k)) (after_stop_from + (row + k) + count) j
 
-pub record StopsRun (m : Mem) (b : Builder) (row k count need : ℕ) (e : Ended) (acc : Affine) (o : Many Affine (ArbitratedChild Affine)) : Type 0 where
+pub record StopsRun (m : Mem) (b : Standing) (row k count need : ℕ) (e : Ended) (acc : Affine) (o : Many Affine (ArbitratedChild Affine)) : Type 0 where
   pub runs : Runs (NotStops row k count) m b e.mem e.builder o.ops need (2 * count)
   pub stop : Rows e.mem e.builder (stops_from + k) (stop_bits o.items)
   pub reach : Rows e.mem e.builder (reach_from + (row + k)) (reaches o.items)
   pub after : Rows e.mem e.builder (after_stop_from + (row + k)) (afters o.items)
   pub form : Stands e.mem e.builder e.form (total floats acc o.items)
 
-pub stops_run : {n : ℕ} {m : Mem} {b : Builder} {os : List (Op Affine)} {sum : Form} {acc : Affine} (row k : ℕ) (xs : List (ClearedChild Affine))
+pub stops_run : {n : ℕ} {m : Mem} {b : Standing} {os : List (Op Affine)} {sum : Form} {acc : Affine} (row k : ℕ) (xs : List (ClearedChild Affine))
     → Ready n m b os → Stands m b sum acc → Rows m b (before_from + k) (kid_befores xs) → Rows m b (blocked_from + k) (kid_blockeds xs) → Rows m b (clear_from + k) (clear_bits xs)
     → row + k + length xs ≤ 128
     → StopsRun m b row k (length xs) (stops_use floats n acc xs os) (stops_in m b sum row k (length xs)) acc (stops floats n acc xs os)

@@ -1,23 +1,22 @@
 -- arbitrate on all that is lent: from the last node to the first, what each would return if it were ticked, with a stack of the statuses that no parent has
 -- taken yet. Where a node asks for what is not there (a child, a leaf slot, a cursor cell, a row), which no tree does, nothing is done and the flag falls.
 -- Inner: the shape of the code; nobody need believe it.
-use Rattle.std.specs.Prelude.{ℕ, zero, suc, ◌+◌, ◌-◌, ◌*◌, ◌≤◌, Bool, true, false, cond, ◌&&◌, List, leb, ltb, get_or, Float}
+use Rattle.std.specs.Prelude.{ℕ, zero, suc, ◌+◌, ◌-◌, ◌*◌, ◌≤◌, Bool, true, false, cond, ◌&&◌, List, leb, ltb, get_or}
 use Rattle.exact.specs.Whole.{zero32}
 use Rattle.wire.specs.declared.Form.{Form}
 use Rattle.wire.specs.Terms.{constant_form}
 use Rattle.walk.specs.Kind.{kind_of}
 use Rattle.construct.specs.Lower.{Flat, leaf, fixed, invert, force, ordered, flat_of}
-use Rattle.builder_table.specs.declared.Builder.{Builder}
-use Rattle.builder_table.specs.Slots.{raw_success_from, raw_failure_from, raw_running_from, stack_success_from, stack_failure_from, stack_running_from, arbitrated_from}
-use Rattle.builder_table.specs.Work.{Mem, mem, loaded, saved}
+use Rattle.builder_table.specs.Work.{Standing, Mem, loaded, saved}
+use Rattle.builder_table.specs.Slots.{raw_success_from, raw_failure_from, raw_running_from, stack_success_from, stack_failure_from}
+use Rattle.builder_table.specs.Slots.{stack_running_from, arbitrated_from}
 use Rattle.builder_table.specs.Steps.{wire_in, full_builder}
 use Rattle.builder.specs.Bits.{bit_form}
 use Rattle.status.specs.declared.Status.{Status}
 use Rattle.status.specs.declared.StatusBits.{StatusBits}
 use Rattle.status.specs.Bits.{bits, unticked_bits, with_bit, inverted_bits, finished_in, forced_bits}
-use Rattle.lower_passes.specs.declared.Ordered.{Ordered}
+use Rattle.lower_passes.specs.Marks.{Ordered, Up}
 use Rattle.lower_passes.specs.Ordered.{Ordains, ordered_in}
-use Rattle.lower_passes.specs.declared.Up.{Up}
 
 -- ---- the state of the pass
 
@@ -25,10 +24,7 @@ pub record Raised : Type 0 where
   pub mem : Mem
   pub up : Up
 
-abbrev pub raised : List ℕ → List Float → List ℕ → List Float → Up → Raised
-raised wires coefs nums biases u = record { mem = mem wires coefs nums biases; up = u }
-
-abbrev pub up : Builder → ℕ → ℕ → ℕ → ℕ → Up
+abbrev pub up : Standing → ℕ → ℕ → ℕ → ℕ → Up
 up b depth row slot cell = record { builder = b; depth = depth; row = row; slot = slot; cell = cell }
 
 -- what holds of it throughout
@@ -44,7 +40,8 @@ raw_in m i d x =
     let s = x.success.0 in
     let f = x.failure.0 in
     let r = x.running.0 in
-    saved (saved (saved (saved (saved (saved m (raw_success_from + i) s) (raw_failure_from + i) f) (raw_running_from + i) r) (stack_success_from + d) s) (stack_failure_from + d) f) (stack_running_from + d) r
+    let raw = saved (saved (saved m (raw_success_from + i) s) (raw_failure_from + i) f) (raw_running_from + i) r in
+    saved (saved (saved raw (stack_success_from + d) s) (stack_failure_from + d) f) (stack_running_from + d) r
 
 -- the status at depth d of the stack
 abbrev pub status_in : Mem → ℕ → StatusBits
@@ -66,7 +63,11 @@ leaf_in m u i base =
     record { mem = raw_in r.mem i u.depth (bits s.form f.form r.form); up = up r.builder (u.depth + 1) u.row (u.slot - 1) u.cell }
 
 unfoldable pub fixed_within : Mem → Up → ℕ → Bool → Raised
-fixed_within m u i own = record { mem = raw_in m i u.depth (with_bit unticked_bits (own_of own) (bit_form true)); up = up u.builder (u.depth + 1) u.row u.slot u.cell }
+fixed_within m u i own =
+    record {
+      mem = raw_in m i u.depth (with_bit unticked_bits (own_of own) (bit_form true));
+      up = up u.builder (u.depth + 1) u.row u.slot u.cell;
+    }
 
 -- a decorator takes the status on top of the stack, and its own takes that place
 unfoldable pub invert_in : Mem → Up → ℕ → Raised
@@ -79,7 +80,7 @@ force_in m u i own =
     record { mem = raw_in f.mem i (u.depth - 1) (forced_bits x (own_of own) f.form); up = up f.builder u.depth u.row u.slot u.cell }
 
 -- lower_ordered, where success (true) or failure advances
-abbrev pub lowered_in : Mem → Builder → Form → Bool → ℕ → ℕ → ℕ → Ordains
+abbrev pub lowered_in : Mem → Standing → Form → Bool → ℕ → ℕ → ℕ → Ordains
 lowered_in m b cursor true top row n = ordered_in m b cursor (stack_success_from + top) (stack_failure_from + top) (stack_running_from + top) row n
 lowered_in m b cursor false top row n = ordered_in m b cursor (stack_failure_from + top) (stack_success_from + top) (stack_running_from + top) row n
 

@@ -1,13 +1,12 @@
 -- The building phase: arbitrate, reach, next running, in the Rust's op order, from an empty arena and no ops.
 -- Inner: the shape of the code; nobody need believe it.
 use Rattle.std.specs.Prelude.{ℕ, ◌+◌, ◌*◌, true, List}
-use Rattle.builder_table.specs.declared.Builder.{Builder}
-use Rattle.builder_table.specs.Work.{Mem, Stood}
+use Rattle.builder_table.specs.Work.{Standing, Mem, Stood}
 use Rattle.lower_passes.specs.Arbitrate.{up, arbitrate_in}
 use Rattle.lower_passes.specs.Reach.{down, root_in, reach_in, flags_in}
 
 -- nothing is built yet; the ops' wires follow the cells
-abbrev pub fresh : ℕ → Builder
+abbrev pub fresh : ℕ → Standing
 fresh cells = record { room = record { used = 0; ok = true }; ops = 0; cells = cells }
 
 unfoldable pub build_in : Mem → List ℕ → List ℕ → ℕ → ℕ → ℕ → Stood

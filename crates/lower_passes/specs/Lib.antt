@@ -2,6 +2,8 @@ pub mod Arbitrate
 pub mod Build
 pub mod Flat
 pub mod Gates
+pub mod Loans
+pub mod Marks
 pub mod Ordered
 pub mod Reach
 pub mod Stops

@@ -1,32 +1,27 @@
 -- lower_ordered on all that is lent: its four loops one after the other. The children stand on the stack, the first on top: their bits of the status that
 -- the composite advances on below `advance`, of the other finished status below `other`, of running below `run`.
 -- Inner: the shape of the code; nobody need believe it.
-use Rattle.std.specs.Prelude.{ℕ, List, Float}
+use Rattle.std.specs.Prelude.{ℕ}
 use Rattle.exact.specs.Whole.{zero32}
 use Rattle.wire.specs.declared.Form.{Form}
 use Rattle.wire.specs.Terms.{constant_form}
-use Rattle.builder_table.specs.declared.Builder.{Builder}
-use Rattle.builder_table.specs.Work.{Mem, mem}
+use Rattle.builder_table.specs.Work.{Standing, Mem}
 use Rattle.builder_table.specs.Steps.{one_minus_in}
 use Rattle.lower_passes.specs.Gates.{gates_in, clears_in}
-use Rattle.lower_passes.specs.declared.Picked.{Picked}
+use Rattle.lower_passes.specs.Marks.{Picked, Ordered}
 use Rattle.lower_passes.specs.Stops.{stops_in, picks_in}
-use Rattle.lower_passes.specs.declared.Ordered.{Ordered}
 
 -- what is left, and the composite's status and next cursor
 pub record Ordains : Type 0 where
   pub mem : Mem
   pub ordered : Ordered
 
-abbrev pub ordains : List ℕ → List Float → List ℕ → List Float → Ordered → Ordains
-ordains wires coefs nums biases o = record { mem = mem wires coefs nums biases; ordered = o }
-
 -- no stop yet
-abbrev pub no_pick : Builder → Picked
+abbrev pub no_pick : Standing → Picked
 no_pick b = record { other = constant_form zero32; run = constant_form zero32; cursor = constant_form zero32; builder = b }
 
 -- the children are given the rows from `row` on; "the advance status if there is none" is 1 - the sum of all stops
-unfoldable pub ordered_in : Mem → Builder → Form → ℕ → ℕ → ℕ → ℕ → ℕ → Ordains
+unfoldable pub ordered_in : Mem → Standing → Form → ℕ → ℕ → ℕ → ℕ → ℕ → Ordains
 ordered_in m b cursor advance other run row n =
     let g = gates_in m b cursor advance 0 n in
     let c = clears_in g.mem g.builder (constant_form zero32) 0 n in

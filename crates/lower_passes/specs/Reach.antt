@@ -1,18 +1,18 @@
 -- reach and the next running flags on all that is lent: from the first node to the last, whether it is ticked or halted, with a stack of what nodes to come
 -- are told by their parents. Where something asked for is not there, which no tree does, nothing is done and the flag falls.
 -- Inner: the shape of the code; nobody need believe it.
-use Rattle.std.specs.Prelude.{ℕ, zero, suc, ◌+◌, ◌-◌, ◌≤◌, Bool, true, false, cond, ◌&&◌, List, leb, ltb, Float}
+use Rattle.std.specs.Prelude.{ℕ, zero, suc, ◌+◌, ◌-◌, ◌≤◌, Bool, true, false, cond, ◌&&◌, List, leb, ltb}
 use Rattle.exact.specs.Whole.{zero32, one32}
 use Rattle.wire.specs.declared.Form.{Form}
 use Rattle.wire.specs.Terms.{constant_form}
 use Rattle.construct.specs.Lower.{Flat, leaf, fixed, invert, force, ordered}
-use Rattle.builder_table.specs.declared.Builder.{Builder}
-use Rattle.builder_table.specs.Slots.{raw_running_from, reach_from, after_stop_from, arbitrated_from, next_cursor_from, reached_from, halted_from, untouched_from, next_running_from, entry_reached_from, entry_called_from}
-use Rattle.builder_table.specs.Work.{Mem, mem, Ended, loaded, saved, Stood}
+use Rattle.builder_table.specs.Work.{Standing, Mem, Ended, loaded, saved, Stood}
+use Rattle.builder_table.specs.Slots.{raw_running_from, reach_from, after_stop_from, arbitrated_from, next_cursor_from, reached_from, halted_from}
+use Rattle.builder_table.specs.Slots.{untouched_from, next_running_from, entry_reached_from, entry_called_from}
 use Rattle.builder_table.specs.Steps.{wire_in, plus_in, one_minus_in, push_in, full_builder}
 use Rattle.builder.specs.Bits.{and_in, or_in}
 use Rattle.lower_passes.specs.Arbitrate.{flat_at}
-use Rattle.lower_passes.specs.declared.Down.{Down}
+use Rattle.lower_passes.specs.Marks.{Down}
 
 -- ---- the state of the pass
 
@@ -20,10 +20,7 @@ pub record Lowered : Type 0 where
   pub mem : Mem
   pub down : Down
 
-abbrev pub lowered : List ℕ → List Float → List ℕ → List Float → Down → Lowered
-lowered wires coefs nums biases v = record { mem = mem wires coefs nums biases; down = v }
-
-abbrev pub down : Builder → ℕ → ℕ → ℕ → Down
+abbrev pub down : Standing → ℕ → ℕ → ℕ → Down
 down b depth row cell = record { builder = b; depth = depth; row = row; cell = cell }
 
 abbrev pub Bounded : Down → Type 0
@@ -37,13 +34,13 @@ entry_in m d reached called = saved (saved m (entry_reached_from + d) reached) (
 
 -- ---- a node: halted = called AND the flag; untouched = NOT reached AND NOT halted
 
-unfoldable pub halt_in : Mem → Builder → Form → Form → ℕ → Ended
+unfoldable pub halt_in : Mem → Standing → Form → Form → ℕ → Ended
 halt_in m b reached called i =
     let was = wire_in m b i in
     let h = and_in was.mem was.builder called was.form in
     record { mem = saved (saved h.mem (reached_from + i) reached) (halted_from + i) h.form; builder = h.builder; form = h.form }
 
-unfoldable pub untouched_in : Mem → Builder → Form → Form → ℕ → Stood
+unfoldable pub untouched_in : Mem → Standing → Form → Form → ℕ → Stood
 untouched_in m b reached halted i =
     let r = one_minus_in m b reached in
     let h = one_minus_in r.mem r.builder halted in
@@ -51,21 +48,21 @@ untouched_in m b reached halted i =
     record { mem = saved u.mem (untouched_from + i) u.form; builder = u.builder }
 
 -- a cursor's next value: the arbitrated one if reached, the current one if untouched
-unfoldable pub keep_in : Mem → Builder → Form → Form → ℕ → ℕ → Stood
+unfoldable pub keep_in : Mem → Standing → Form → Form → ℕ → ℕ → Stood
 keep_in m b moved untouched cell nodes =
     let w = wire_in m b (nodes + cell) in
     let k = push_in w.mem w.builder w.form untouched in
     let s = plus_in k.mem k.builder moved k.form in
     record { mem = saved s.mem (next_cursor_from + cell) s.form; builder = s.builder }
 
-unfoldable pub cursor_in : Mem → Builder → ℕ → ℕ → ℕ → Stood
+unfoldable pub cursor_in : Mem → Standing → ℕ → ℕ → ℕ → Stood
 cursor_in m b i cell nodes =
     let a = push_in m b (loaded m (arbitrated_from + i)) (loaded m (reached_from + i)) in
     keep_in a.mem a.builder a.form (loaded a.mem (untouched_from + i)) cell nodes
 
 -- ---- what a node's children are told: of a composite's, reached AND reach_k, halted OR (reached AND after_stop_k)
 
-unfoldable pub spread_one_in : Mem → Builder → Form → Form → ℕ → ℕ → Stood
+unfoldable pub spread_one_in : Mem → Standing → Form → Form → ℕ → ℕ → Stood
 spread_one_in m b reached halted row d =
     let a = and_in m b reached (loaded m (reach_from + row)) in
     let s = and_in a.mem a.builder reached (loaded m (after_stop_from + row)) in
@@ -73,7 +70,7 @@ spread_one_in m b reached halted row d =
     record { mem = entry_in c.mem d a.form c.form; builder = c.builder }
 
 -- the children from the k-th on, of which there are so many; the last child's entry is at depth d, the first child's on top
-unfoldable pub spread_in : Mem → Builder → Form → Form → ℕ → ℕ → ℕ → ℕ → Stood
+unfoldable pub spread_in : Mem → Standing → Form → Form → ℕ → ℕ → ℕ → ℕ → Stood
 spread_in m b reached halted row d k zero = record { mem = m; builder = b }
 spread_in m b reached halted row d k (suc rest) =
     let s = spread_one_in m b reached halted (row + k) (d + rest) in
@@ -134,7 +131,7 @@ root_in m = entry_in m 0 (constant_form one32) (constant_form zero32)
 
 -- ---- next running: reached AND running, or untouched AND the flag
 
-unfoldable pub flag_in : Mem → Builder → ℕ → Stood
+unfoldable pub flag_in : Mem → Standing → ℕ → Stood
 flag_in m b i =
     let a = and_in m b (loaded m (reached_from + i)) (loaded m (raw_running_from + i)) in
     let was = wire_in a.mem a.builder i in
@@ -142,7 +139,7 @@ flag_in m b i =
     let s = plus_in k.mem k.builder a.form k.form in
     record { mem = saved s.mem (next_running_from + i) s.form; builder = s.builder }
 
-unfoldable pub flags_in : Mem → Builder → ℕ → ℕ → Stood
+unfoldable pub flags_in : Mem → Standing → ℕ → ℕ → Stood
 flags_in m b i zero = record { mem = m; builder = b }
 flags_in m b i (suc rest) =
     let s = flag_in m b i in

@@ -1,30 +1,29 @@
 -- The last two loops of lower_ordered on all that is lent: which children are reached, where the walk stops, and the stop's status.
 -- Inner: the shape of the code; nobody need believe it.
-use Rattle.std.specs.Prelude.{ℕ, zero, suc, ◌+◌, ◌-◌, List, Float}
+use Rattle.std.specs.Prelude.{ℕ, zero, suc, ◌+◌, ◌-◌}
 use Rattle.wire.specs.declared.Form.{Form}
 use Rattle.construct_floats.specs.Floats.{number}
-use Rattle.builder_table.specs.declared.Builder.{Builder}
+use Rattle.builder_table.specs.Work.{Standing, Mem, Ended, loaded, saved, Stood}
 use Rattle.builder_table.specs.Slots.{before_from, blocked_from, clear_from, stops_from, reach_from, after_stop_from}
-use Rattle.builder_table.specs.Work.{Mem, mem, Ended, loaded, saved, Stood}
 use Rattle.builder_table.specs.Steps.{plus_in, scaled_in, one_minus_in}
 use Rattle.builder.specs.Bits.{and_in}
-use Rattle.lower_passes.specs.declared.Picked.{Picked}
+use Rattle.lower_passes.specs.Marks.{Picked}
 
 -- ---- reach_k = clear_k AND NOT before_k; stop_k = clear_k AND blocked_k; after_stop_k is the sum of the earlier stops
 
-unfoldable pub reach_in : Mem → Builder → ℕ → ℕ → Stood
+unfoldable pub reach_in : Mem → Standing → ℕ → ℕ → Stood
 reach_in m b k row =
     let n = one_minus_in m b (loaded m (before_from + k)) in
     let r = and_in n.mem n.builder (loaded m (clear_from + k)) n.form in
     record { mem = saved r.mem (reach_from + row) r.form; builder = r.builder }
 
 -- the form is the sum of the stops so far
-unfoldable pub stop_in : Mem → Builder → Form → ℕ → Ended
+unfoldable pub stop_in : Mem → Standing → Form → ℕ → Ended
 stop_in m b sum k =
     let s = and_in m b (loaded m (clear_from + k)) (loaded m (blocked_from + k)) in
     plus_in (saved s.mem (stops_from + k) s.form) s.builder sum s.form
 
-unfoldable pub stops_in : Mem → Builder → Form → ℕ → ℕ → ℕ → Ended
+unfoldable pub stops_in : Mem → Standing → Form → ℕ → ℕ → ℕ → Ended
 stops_in m b sum row k zero = record { mem = m; builder = b; form = sum }
 stops_in m b sum row k (suc rest) =
     let r = reach_in (saved m (after_stop_from + (row + k)) sum) b k (row + k) in
@@ -38,11 +37,8 @@ pub record Chosen : Type 0 where
   pub mem : Mem
   pub picked : Picked
 
-abbrev pub chosen : List ℕ → List Float → List ℕ → List Float → Picked → Chosen
-chosen wires coefs nums biases p = record { mem = mem wires coefs nums biases; picked = p }
-
 -- a child that stops the walk running: its bit, and its position times its bit, are added
-unfoldable pub run_in : Mem → Builder → Form → Form → Form → ℕ → Form → Chosen
+unfoldable pub run_in : Mem → Standing → Form → Form → Form → ℕ → Form → Chosen
 run_in m b run cur bit k other =
     let r = plus_in m b run bit in
     let x = scaled_in r.mem r.builder bit (number k) in

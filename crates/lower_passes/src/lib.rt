@@ -1,32 +1,33 @@
-// Where the passes of lowering stand, and what they answer: plain structs, below the code that fills them and the laws about them.
+// Where the passes of lowering stand beside the builder, what they answer, and a node's family: below the code that fills them and the laws about them.
 #![tactic(auto)]
 
-use builder_table::Builder;
+ghost use Rattle.std.specs.Prelude.{◌≡◌};
+ghost use Rattle.walk.specs.Kind.{kind_of};
+ghost use Rattle.construct.specs.Lower as Node;
+ghost use Rattle.lower_passes.specs.Flat.{flat_of};
+
 use wire::Form;
 
-// The status that the stop does not advance on, running, the next cursor, and where building stands.
+// The status that the stop does not advance on, running, and the next cursor.
 #[derive(Clone, Copy)]
-pub struct Picked {
+pub struct Picks {
     pub other: Form,
     pub run: Form,
     pub cursor: Form,
-    pub builder: Builder,
 }
 
-// The composite's bit of the status that it advances on, of the other finished status, of running; its next cursor; and where building stands.
+// The composite's bit of the status that it advances on, of the other finished status, of running; and its next cursor.
 #[derive(Clone, Copy)]
-pub struct Ordered {
+pub struct Decision {
     pub advance: Form,
     pub other: Form,
     pub run: Form,
     pub cursor: Form,
-    pub builder: Builder,
 }
 
-// Where the pass stands: the statuses on the stack, the rows given to children, and the leaf slots and cursor cells still to be given.
+// Where arbitrate stands: the statuses on the stack, the rows given to children, and the leaf slots and cursor cells still to be given.
 #[derive(Clone, Copy)]
-pub struct Up {
-    pub builder: Builder,
+pub struct UpMark {
     pub depth: usize,
     pub row: usize,
     pub slot: usize,
@@ -44,10 +45,30 @@ pub enum Flat {
     Ordered(bool, bool, usize),
 }
 
-// Where the pass stands: the entries on the stack, the rows of children still to come, and the cursor cells passed.
+impl Flat {
+    // Of a kind's number, and the child count in the node's record. Kind 1 is a leaf, and kinds above 10 are never lowered.
+    #[tactic(auto, unfolding(walk::specs::Kind::kind_of))]
+    pub fn of(kind: u8, n: usize) -> Self
+        ensures { flat_of result ≡ Node.flat_of (kind_of kind) n }
+    {
+        match kind {
+            2 => Self::Fixed(true),
+            3 => Self::Fixed(false),
+            4 => Self::Ordered(true, true, n),
+            5 => Self::Ordered(false, true, n),
+            6 => Self::Ordered(true, false, n),
+            7 => Self::Ordered(false, false, n),
+            8 => Self::Invert,
+            9 => Self::Force(true),
+            10 => Self::Force(false),
+            _ => Self::Leaf,
+        }
+    }
+}
+
+// Where reach stands: the entries on the stack, the rows of children still to come, and the cursor cells passed.
 #[derive(Clone, Copy)]
-pub struct Down {
-    pub builder: Builder,
+pub struct DownMark {
     pub depth: usize,
     pub row: usize,
     pub cell: usize,

@@ -4,128 +4,78 @@
 mod spreads;
 mod visits;
 
-ghost use Rattle.std.specs.Prelude.{◌≡◌, true, ◌≤◌, ◌<◌, length};
-ghost use Rattle.walk.specs.Kind.{kind_of};
-ghost use Rattle.construct.specs.Lower.{flat_of, ordered};
-ghost use Rattle.builder_table.specs.Work.{Whole, mem};
-ghost use Rattle.builder_table.specs.Steps.{full_builder};
-ghost use Rattle.lower_passes.specs.Reach.{Bounded, down, lowered, step_within, reach_in};
+ghost use Rattle.std.specs.Prelude.{true, ◌≡◌, ◌≤◌, ◌<◌, length};
+ghost use Rattle.builder_table.specs.Work.{Standing};
+ghost use Rattle.builder_table.specs.Loans.{memory, standing};
+ghost use Rattle.lower_passes.specs.Flat.{flat_of};
+ghost use Rattle.lower_passes.specs.Loans.{Lowers};
+ghost use Rattle.lower_passes.specs.Marks.{down_at};
+ghost use Rattle.lower_passes.specs.Reach.{Bounded};
+ghost use Rattle.lower_passes.specs.Reach as Pass;
 
-use arena_room::Room;
 use builder_table::Builder;
-use lower_passes::Down;
-
-fn stuck(v: Down) -> Down
-    ensures { result ≡ down (full_builder v.builder) v.depth v.row v.cell }
-{
-    let at = v.builder;
-    let room = at.room;
-    let used = room.used;
-    let none = Room { used, ok: false };
-    Down {
-        builder: Builder {
-            room: none,
-            ops: at.ops,
-            cells: at.cells,
-        },
-        depth: v.depth,
-        row: v.row,
-        cell: v.cell,
-    }
-}
-
-fn composite(
-    wires: &mut [u32],
-    coefs: &mut [f32],
-    nums: &mut [usize],
-    biases: &mut [f32],
-    v: Down,
-    i: usize,
-    memory: bool,
-    n: usize,
-    nodes: usize,
-) -> Down
-    requires { Whole nums.old biases.old × Bounded v × (0 < v.depth) × (i < 128) × (n ≤ 65535) × (nodes ≤ 128) }
-    ensures { lowered wires.new coefs.new nums.new biases.new result
-        ≡ step_within (mem wires.old coefs.old nums.old biases.old) v i (ordered memory true n) nodes }
-{
-    let depth = v.depth;
-    let row = v.row;
-    let cell = v.cell;
-    if 129 < depth + n {
-        return stuck(v);
-    }
-    if row < n {
-        return stuck(v);
-    }
-    if !memory {
-        return crate::visits::reactive(wires, coefs, nums, biases, v, i, n);
-    }
-    if 128 <= cell {
-        return stuck(v);
-    }
-    crate::visits::memory(wires, coefs, nums, biases, v, i, n, nodes)
-}
-
-fn step(
-    wires: &mut [u32],
-    coefs: &mut [f32],
-    nums: &mut [usize],
-    biases: &mut [f32],
-    v: Down,
-    i: usize,
-    kind: u8,
-    count: u16,
-    nodes: usize,
-) -> Down
-    requires { Whole nums.old biases.old × Bounded v × (i < 128) × (nodes ≤ 128) }
-    ensures { lowered wires.new coefs.new nums.new biases.new result
-        ≡ step_within (mem wires.old coefs.old nums.old biases.old) v i (flat_of (kind_of kind) count) nodes }
-{
-    let depth = v.depth;
-    if depth == 0 {
-        return stuck(v);
-    }
-    if (kind < 4) | (10 < kind) {
-        return crate::visits::leaf(wires, coefs, nums, biases, v, i);
-    }
-    if 7 < kind {
-        return crate::visits::decorator(wires, coefs, nums, biases, v, i);
-    }
-    let memory = (kind == 4) | (kind == 6);
-    composite(
-        wires,
-        coefs,
-        nums,
-        biases,
-        v,
-        i,
-        memory,
-        count as usize,
-        nodes,
-    )
-}
+use lower_passes::{DownMark, Flat};
 
 // The root's entry is on the stack.
+#[tactic(auto, unfolding(lower_passes::specs::Reach::reach_in))]
 pub fn reach(
-    wires: &mut [u32],
-    coefs: &mut [f32],
-    nums: &mut [usize],
-    biases: &mut [f32],
+    b: &mut Builder,
     kinds: &[u8],
     counts: &[u16],
-    start: Down,
+    start: DownMark,
     nodes: usize,
-) -> Down
-    requires { Whole nums.old biases.old × Bounded start × (nodes ≤ 128) × (nodes ≤ length kinds.now) × (nodes ≤ length counts.now) }
-    ensures { lowered wires.new coefs.new nums.new biases.new result
-        ≡ reach_in (mem wires.old coefs.old nums.old biases.old) start kinds.now counts.now nodes 0 nodes }
+) -> DownMark
+    requires { Bounded (down_at (standing b.old) start) × (nodes ≤ 128) × (nodes ≤ length kinds.now) × (nodes ≤ length counts.now) }
+    ensures { Lowers b.old b.new result (Pass.reach_in (memory b.old) (down_at (standing b.old) start) kinds.now counts.now nodes 0 nodes) }
 {
     let mut v = start;
-    let mut i = 0;
-    while i < nodes {
-        v = step(wires, coefs, nums, biases, v, i, kinds[i], counts[i], nodes);
-        i += 1;
+    for i in 0..nodes {
+        let node = Flat::of(kinds[i], counts[i] as usize);
+        v = step(b, v, i, node, nodes);
     }
     v
+}
+
+#[tactic(auto, unfolding(lower_passes::specs::Reach::step_within, lower_passes::specs::Reach::stuck))]
+fn step(b: &mut Builder, v: DownMark, i: usize, node: Flat, nodes: usize) -> DownMark
+    requires { (i < 128) × Bounded (down_at (standing b.old) v) × (nodes ≤ 128) }
+    ensures lowered { Lowers b.old b.new result (Pass.step_within (memory b.old) (down_at (standing b.old) v) i (flat_of node) nodes) }
+    ensures bounded { Bounded (down_at (standing b.new) result) }
+{
+    if !ready(v, node) {
+        // What the node asks for is not there: nothing is done, and the flag falls.
+        b.full();
+        return v;
+    }
+    visit(b, v, i, node, nodes)
+}
+
+// Whether what the node asks for is there: its own entry, and room for its children's.
+fn ready(v: DownMark, node: Flat) -> bool
+    requires { (v.depth ≤ 128) × (v.row ≤ 128) }
+    ensures { (at : Standing) → result ≡ Pass.ready (down_at at v) (flat_of node) }
+{
+    let entry = 0 < v.depth;
+    match node {
+        Flat::Ordered(remembers, _, n) => {
+            entry && n <= v.row && v.depth + n <= 129 && (!remembers || v.cell < 128)
+        }
+        _ => entry,
+    }
+}
+
+// A node for which all that it asks is there.
+#[tactic(auto, unfolding(lower_passes::specs::Reach::node_in))]
+fn visit(b: &mut Builder, v: DownMark, i: usize, node: Flat, nodes: usize) -> DownMark
+    requires bounded { (i < 128) × Bounded (down_at (standing b.old) v) × (nodes ≤ 128) }
+    requires ready { Pass.ready (down_at (standing b.old) v) (flat_of node) ≡ true }
+    ensures lowered { Lowers b.old b.new result (Pass.node_in (memory b.old) (down_at (standing b.old) v) i (flat_of node) nodes) }
+    ensures bounded { Bounded (down_at (standing b.new) result) }
+{
+    match node {
+        Flat::Leaf | Flat::Fixed(_) => crate::visits::leaf(b, v, i),
+        Flat::Invert | Flat::Force(_) => crate::visits::decorator(b, v, i),
+        Flat::Ordered(true, _, n) => crate::visits::with_cursor(b, v, i, n, nodes),
+        Flat::Ordered(false, _, n) => crate::visits::reactive(b, v, i, n),
+    }
 }

@@ -10,8 +10,7 @@ use Rattle.wire.specs.Terms.{Affine}
 use Rattle.construct.specs.Builder.{Op, Out, and}
 use Rattle.construct.specs.Lower.{NodeReach, flags}
 use Rattle.construct_floats.specs.Floats.{floats}
-use Rattle.builder_table.specs.declared.Builder.{Builder}
-use Rattle.builder_table.specs.Work.{Mem, loaded, Stood}
+use Rattle.builder_table.specs.Work.{Standing, Mem, loaded, Stood}
 use Rattle.builder_laws.specs.Table.{Stands}
 use Rattle.builder_laws.proofs.Lasts.{size}
 use Rattle.lower_room.proofs.Uses.{flags_use}
@@ -32,12 +31,12 @@ running n x os = and floats n x.reached x.raw.running os
 abbrev unticked : ℕ → NodeReach Affine → List (Op Affine) → Out Affine
 unticked n x os = and floats n x.untouched x.was (running n x os).ops
 
-record Flagged (n i : ℕ) (m : Mem) (b : Builder) (x : NodeReach Affine) (os : List (Op Affine)) (e : Stood) : Type 0 where
+record Flagged (n i : ℕ) (m : Mem) (b : Standing) (x : NodeReach Affine) (os : List (Op Affine)) (e : Stood) : Type 0 where
   runs : Runs (Flagless i) m b e.mem e.builder (unticked n x os).ops (3 + (size (running n x os).form + size (unticked n x os).form)) 2
   flag : Stands e.mem e.builder (loaded e.mem (next_running_from + i)) (floats.plus (running n x os).form (unticked n x os).form)
 
 -- one node
-flag_law : {n : ℕ} {m : Mem} {b : Builder} {os : List (Op Affine)} → Ready n m b os → (i : ℕ) (x : NodeReach Affine) → OutAt m b i x → i < 128 → Flagged n i m b x os (flag_in m b i)
+flag_law : {n : ℕ} {m : Mem} {b : Standing} {os : List (Op Affine)} → Ready n m b os → (i : ℕ) (x : NodeReach Affine) → OutAt m b i x → i < 128 → Flagged n i m b x os (flag_in m b i)
 unfolding flag_in
 flag_law r i x h l =
     let a = and_runs {K = Flagless i} r h.reached h.raw.running in
@@ -56,15 +55,15 @@ flag_law r i x h l =
 flags_apart : (i j : ℕ) → j < 128 → OutSlots (Flagless i) j
 flags_apart i j l = omega arith
 
-flags_none : (m : Mem) (b : Builder) (i : ℕ) → flags_in m b i 0 ≡ record { mem = m; builder = b }
+flags_none : (m : Mem) (b : Standing) (i : ℕ) → flags_in m b i 0 ≡ record { mem = m; builder = b }
 unfolding flags_in
 flags_none m b i = refl
 
-flags_more : (m : Mem) (b : Builder) (i rest : ℕ) → flags_in m b i (suc rest) ≡ flags_in (flag_in m b i).mem (flag_in m b i).builder (suc i) rest
+flags_more : (m : Mem) (b : Standing) (i rest : ℕ) → flags_in m b i (suc rest) ≡ flags_in (flag_in m b i).mem (flag_in m b i).builder (suc i) rest
 unfolding flags_in
 flags_more m b i rest = ap (λ (j : ℕ). flags_in (flag_in m b i).mem (flag_in m b i).builder j rest) (add-one i)
 
-flags_from : {n : ℕ} {m : Mem} {b : Builder} {os : List (Op Affine)} → Ready n m b os → (i cursorsAt : ℕ) (outs : List (NodeReach Affine)) → OutsAt m b i outs → i + length outs ≤ 128
+flags_from : {n : ℕ} {m : Mem} {b : Standing} {os : List (Op Affine)} → Ready n m b os → (i cursorsAt : ℕ) (outs : List (NodeReach Affine)) → OutsAt m b i outs → i + length outs ≤ 128
     → FlagsRuns i (length outs) (flags_use floats n outs os) m b (flags_in m b i (length outs)) (flags floats n cursorsAt outs os)
 unfolding flags flags_use
 flags_from {m = m} {b = b} r i cursorsAt [] h l = rw (flags_none m b i) (record { runs = runs_none r; rows = tt })

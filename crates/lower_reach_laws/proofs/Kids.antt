@@ -10,8 +10,7 @@ use Rattle.wire.specs.Terms.{Affine}
 use Rattle.construct.specs.Builder.{Op}
 use Rattle.construct.specs.Lower.{Flat, leaf, fixed, invert, force, ordered, ArbitratedChild, Entry, Many, children}
 use Rattle.construct_floats.specs.Floats.{floats}
-use Rattle.builder_table.specs.declared.Builder.{Builder}
-use Rattle.builder_table.specs.Work.{Mem}
+use Rattle.builder_table.specs.Work.{Standing, Mem}
 use Rattle.builder_laws.specs.Table.{Stands}
 use Rattle.builder_table.specs.Slots.{reach_from, after_stop_from}
 use Rattle.lower_room.proofs.Uses.{kids_of, children_use}
@@ -24,14 +23,14 @@ use Rattle.lower_ordered_laws.proofs.Kept.{entries_kept}
 use Rattle.lower_reach_laws.proofs.Spread.{Told, entry_law, entries_push, spread_law}
 
 -- t entries are put above es, for k children that have rows
-pub record KidsRuns (t k rows c need : ℕ) (m : Mem) (b : Builder) (es : List (Entry Affine)) (s : Many Affine (Entry Affine)) (e : Lowered) : Type 0 where
+pub record KidsRuns (t k rows c need : ℕ) (m : Mem) (b : Standing) (es : List (Entry Affine)) (s : Many Affine (Entry Affine)) (e : Lowered) : Type 0 where
   pub runs : Runs (Told (length es) t) m b e.mem e.down.builder s.ops need (3 * k)
   pub entries : EntriesAt e.mem e.down.builder (s.items ++ es)
   pub depth : e.down.depth ≡ length es + t
   pub row : e.down.row ≡ rows - k
   pub cell : e.down.cell ≡ c
 
-module _ {n : ℕ} {m : Mem} {b : Builder} {os : List (Op Affine)} {f g : Form} {r h : Affine} (z : Ready n m b os) (hr : Stands m b f r) (hh : Stands m b g h) (cursorsAt row c : ℕ) (w : row ≤ 128)
+module _ {n : ℕ} {m : Mem} {b : Standing} {os : List (Op Affine)} {f g : Form} {r h : Affine} (z : Ready n m b os) (hr : Stands m b f r) (hh : Stands m b g h) (cursorsAt row c : ℕ) (w : row ≤ 128)
     (es : List (Entry Affine)) (t : EntriesAt m b es) where
   -- no child
   none : KidsRuns 0 0 row c 0 m b es (record { items = []; ops = os }) (record { mem = m; down = down b (length es) row c })

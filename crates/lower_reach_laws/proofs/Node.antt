@@ -8,14 +8,13 @@ use Rattle.wire.specs.Terms.{Affine}
 use Rattle.construct.specs.Builder.{Op, Out}
 use Rattle.construct.specs.Lower.{Flat, cell_after, Arbitration, Entry, NodeReach, Many, next_cur, children}
 use Rattle.construct_floats.specs.Floats.{floats}
-use Rattle.builder_table.specs.declared.Builder.{Builder}
-use Rattle.builder_table.specs.Work.{Mem, Ended, loaded}
+use Rattle.builder_table.specs.Work.{Standing, Mem, Ended, loaded}
 use Rattle.builder_laws.specs.Table.{Stands}
 use Rattle.builder_laws.proofs.Lasts.{size}
 use Rattle.lower_room.proofs.Uses.{kids_of, cur_use, children_use}
 use Rattle.builder_laws.proofs.Running.{Runs, Rows}
 use Rattle.builder_laws.proofs.Runs.{slot_kept, rows_kept, Ready, runs_then, runs_less, runs_wide, ready_after, stands_after}
-use Rattle.lower_passes.specs.declared.Down.{Down}
+use Rattle.lower_passes.specs.Marks.{Down}
 use Rattle.builder_table.specs.Slots.{next_cursor_from, reached_from, halted_from, untouched_from, entry_reached_from, entry_called_from}
 use Rattle.lower_passes.specs.Reach.{Lowered, down, halt_in, untouched_in, turn_in, kids_in, node_in}
 use Rattle.lower_ordered_laws.proofs.Passes.{takes, ArbitrationAt, EntriesAt, OutAt}
@@ -27,7 +26,7 @@ use Rattle.lower_reach_laws.proofs.Parts.{But, Unmarked, Unturned, halts, rests,
 use Rattle.lower_reach_laws.proofs.Kids.{KidsRuns, kids_law}
 
 -- the entry on top, and those below
-entries_top : (m : Mem) (b : Builder) (e : Entry Affine) (es : List (Entry Affine)) → EntriesAt m b (e ∷ es) → EntryAt (length es) m b e × EntriesAt m b es
+entries_top : (m : Mem) (b : Standing) (e : Entry Affine) (es : List (Entry Affine)) → EntriesAt m b (e ∷ es) → EntryAt (length es) m b e × EntriesAt m b es
 entries_top m b e es t = (
   record {
     reached = rw (length-map es (λ (x : Entry Affine). x.reached)) at t.reached.0;
@@ -60,7 +59,7 @@ module _ (n cursorsAt i c : ℕ) (node : Flat) (x : Arbitration Affine) (e : Ent
 abbrev pub node_more : Flat → ℕ
 node_more node = 2 + 2 * cell_after node 0 + 3 * kids_of node
 
-pub record NodeRuns (n cursorsAt i c rows : ℕ) (node : Flat) (x : Arbitration Affine) (e : Entry Affine) (es : List (Entry Affine)) (os : List (Op Affine)) (m : Mem) (b : Builder) (s : Lowered) : Type 0 where
+pub record NodeRuns (n cursorsAt i c rows : ℕ) (node : Flat) (x : Arbitration Affine) (e : Entry Affine) (es : List (Entry Affine)) (os : List (Op Affine)) (m : Mem) (b : Standing) (s : Lowered) : Type 0 where
   pub runs : Runs (Past i c (length es)) m b s.mem s.down.builder (kid_of n cursorsAt i c node x e os).ops (node_use n cursorsAt i c node x e os) (node_more node)
   pub out : OutAt s.mem s.down.builder i (out_of n cursorsAt i c node x e os)
   pub cursor : Rows s.mem s.down.builder (next_cursor_from + c) (cur_of n cursorsAt i c node x e os).items
@@ -85,16 +84,16 @@ past_told i c d t k l p = (λ a e. p.4 a (omega arith), λ a e. p.5 a (omega ari
 -- ---- the node
 
 -- the halt of a node whose own entry is at depth d, and all before its children are told
-unfoldable pub halt_at : Mem → Builder → ℕ → ℕ → Ended
+unfoldable pub halt_at : Mem → Standing → ℕ → ℕ → Ended
 halt_at m b d i = halt_in m b (loaded m (entry_reached_from + d)) (loaded m (entry_called_from + d)) i
 
-unfoldable pub turn_at : Mem → Builder → ℕ → ℕ → ℕ → ℕ → Flat → ℕ → Lowered
+unfoldable pub turn_at : Mem → Standing → ℕ → ℕ → ℕ → ℕ → Flat → ℕ → Lowered
 turn_at m b d row c i node nodes =
     let h = halt_at m b d i in
     let u = untouched_in h.mem h.builder (loaded m (entry_reached_from + d)) h.form i in
     turn_in u.mem (down u.builder d row c) i node nodes
 
-unfoldable pub node_reach : Mem → Builder → ℕ → ℕ → ℕ → ℕ → Flat → ℕ → Lowered
+unfoldable pub node_reach : Mem → Standing → ℕ → ℕ → ℕ → ℕ → Flat → ℕ → Lowered
 node_reach m b d row c i node nodes =
     let t = turn_at m b d row c i node nodes in
     kids_in t.mem t.down node (loaded m (entry_reached_from + d)) (halt_at m b d i).form
@@ -104,7 +103,7 @@ unfolding node_in node_reach halt_at turn_at
 node_at m v i node nodes = refl
 
 -- before the children are told
-record TurnedRuns (n cursorsAt i c rows : ℕ) (node : Flat) (x : Arbitration Affine) (e : Entry Affine) (es : List (Entry Affine)) (os : List (Op Affine)) (m : Mem) (b : Builder) (h : Ended) (s : Lowered)
+record TurnedRuns (n cursorsAt i c rows : ℕ) (node : Flat) (x : Arbitration Affine) (e : Entry Affine) (es : List (Entry Affine)) (os : List (Op Affine)) (m : Mem) (b : Standing) (h : Ended) (s : Lowered)
     : Type 0 where
   runs : Runs (First i c node) m b s.mem s.down.builder (cur_of n cursorsAt i c node x e os).ops (3 + size e.reached + size (halt_of n cursorsAt i c node x e os).form + cur_use floats n node)
       (2 + 2 * cell_after node 0)
@@ -116,7 +115,7 @@ record TurnedRuns (n cursorsAt i c rows : ℕ) (node : Flat) (x : Arbitration Af
   halted : Stands s.mem s.down.builder h.form (halt_of n cursorsAt i c node x e os).form
   down' : s.down ≡ down s.down.builder (length es) rows (cell_after node c)
 
-module _ {n : ℕ} {m : Mem} {b : Builder} {os : List (Op Affine)} (z : Ready n m b os) (cursorsAt i c rows : ℕ) (node : Flat) (x : Arbitration Affine) (e : Entry Affine) (es : List (Entry Affine)) (l : i < 128)
+module _ {n : ℕ} {m : Mem} {b : Standing} {os : List (Op Affine)} (z : Ready n m b os) (cursorsAt i c rows : ℕ) (node : Flat) (x : Arbitration Affine) (e : Entry Affine) (es : List (Entry Affine)) (l : i < 128)
     (lc : cell_after node c ≤ 128) (lr : rows ≤ 128) (lk : kids_of node ≤ rows) (ld : length es + takes node ≤ 128) (h : ArbitrationAt m b i rows node x) (t : EntriesAt m b (e ∷ es)) where
   turned_law : TurnedRuns n cursorsAt i c rows node x e es os m b (halt_at m b (length es) i) (turn_at m b (length es) rows c i node cursorsAt)
   unfolding halt_at turn_at

@@ -10,8 +10,7 @@ use Rattle.wire.specs.Terms.{Affine}
 use Rattle.construct.specs.Builder.{Op, Out, and, push, not'}
 use Rattle.construct.specs.Lower.{Flat, leaf, fixed, invert, force, ordered, cell_after, Many, next_cur}
 use Rattle.construct_floats.specs.Floats.{floats}
-use Rattle.builder_table.specs.declared.Builder.{Builder}
-use Rattle.builder_table.specs.Work.{Mem, Ended, loaded, Stood}
+use Rattle.builder_table.specs.Work.{Standing, Mem, Ended, loaded, Stood}
 use Rattle.builder_laws.specs.Table.{Stands}
 use Rattle.builder_laws.proofs.Lasts.{size, push_size}
 use Rattle.lower_room.proofs.Uses.{cur_use}
@@ -36,13 +35,13 @@ halts n i called os = and floats n called (floats.wire i) os
 abbrev pub Unmarked : ℕ → ℕ → Type 0
 Unmarked i k = But (reached_from + i) k × But (halted_from + i) k
 
-pub record HaltRuns (i : ℕ) (m : Mem) (b : Builder) (x : Affine) (o : Out Affine) (e : Ended) : Type 0 where
+pub record HaltRuns (i : ℕ) (m : Mem) (b : Standing) (x : Affine) (o : Out Affine) (e : Ended) : Type 0 where
   pub runs : Runs (Unmarked i) m b e.mem e.builder o.ops 2 1
   pub reached : Stands e.mem e.builder (loaded e.mem (reached_from + i)) x
   pub halted : Stands e.mem e.builder (loaded e.mem (halted_from + i)) o.form
   pub form : Stands e.mem e.builder e.form o.form
 
-pub halt_law : {n : ℕ} {m : Mem} {b : Builder} {os : List (Op Affine)} {f g : Form} {x y : Affine} → Ready n m b os → (i : ℕ) → i < 128 → Stands m b f x → Stands m b g y
+pub halt_law : {n : ℕ} {m : Mem} {b : Standing} {os : List (Op Affine)} {f g : Form} {x y : Affine} → Ready n m b os → (i : ℕ) → i < 128 → Stands m b f x → Stands m b g y
     → HaltRuns i m b x (halts n i y os) (halt_in m b f g i)
 unfolding halt_in
 halt_law z i l hx hy =
@@ -67,11 +66,11 @@ halt_law z i l hx hy =
 abbrev pub rests : ℕ → Affine → Affine → List (Op Affine) → Out Affine
 rests n reached halted os = and floats n (not' floats reached) (not' floats halted) os
 
-pub record RestRuns (i need : ℕ) (m : Mem) (b : Builder) (o : Out Affine) (e : Stood) : Type 0 where
+pub record RestRuns (i need : ℕ) (m : Mem) (b : Standing) (o : Out Affine) (e : Stood) : Type 0 where
   pub runs : Runs (But (untouched_from + i)) m b e.mem e.builder o.ops need 1
   pub untouched : Stands e.mem e.builder (loaded e.mem (untouched_from + i)) o.form
 
-pub rest_law : {n : ℕ} {m : Mem} {b : Builder} {os : List (Op Affine)} {f g : Form} {x y : Affine} → Ready n m b os → (i : ℕ) → i < 128 → Stands m b f x → Stands m b g y
+pub rest_law : {n : ℕ} {m : Mem} {b : Standing} {os : List (Op Affine)} {f g : Form} {x y : Affine} → Ready n m b os → (i : ℕ) → i < 128 → Stands m b f x → Stands m b g y
     → RestRuns i (1 + size x + size y) m b (rests n x y os) (untouched_in m b f g i)
 unfolding untouched_in
 rest_law z i l hx hy =
@@ -90,12 +89,12 @@ rest_law z i l hx hy =
 abbrev pub Unturned : ℕ → Flat → ℕ → Type 0
 Unturned c node k = Not (next_cursor_from + c) (next_cursor_from + cell_after node c) k
 
-pub record TurnRuns (c d row : ℕ) (node : Flat) (need : ℕ) (m : Mem) (b : Builder) (k : Many Affine Affine) (e : Lowered) : Type 0 where
+pub record TurnRuns (c d row : ℕ) (node : Flat) (need : ℕ) (m : Mem) (b : Standing) (k : Many Affine Affine) (e : Lowered) : Type 0 where
   pub runs : Runs (Unturned c node) m b e.mem e.down.builder k.ops need (2 * cell_after node 0)
   pub cursor : Rows e.mem e.down.builder (next_cursor_from + c) k.items
   pub down : e.down ≡ down e.down.builder d row (cell_after node c)
 
-module _ {n : ℕ} {m : Mem} {b : Builder} {os : List (Op Affine)} (z : Ready n m b os) (i c d row cursorsAt : ℕ) (l : i < 128) {r u : Affine} (hr : Stands m b (loaded m (reached_from + i)) r)
+module _ {n : ℕ} {m : Mem} {b : Standing} {os : List (Op Affine)} (z : Ready n m b os) (i c d row cursorsAt : ℕ) (l : i < 128) {r u : Affine} (hr : Stands m b (loaded m (reached_from + i)) r)
     (hu : Stands m b (loaded m (untouched_from + i)) u) where
   memory_law : (on : Bool) (k : ℕ) (x : Affine) → c < 128 → Stands m b (loaded m (arbitrated_from + i)) x
       → TurnRuns c d row (ordered true on k) (cur_use floats n (ordered true on k)) m b (next_cur floats n cursorsAt (ordered true on k) c r u x os) (turn_in m (down b d row c) i (ordered true on k) cursorsAt)

@@ -11,13 +11,12 @@ use Rattle.construct.specs.Lower.{Flat, cell_after, Arbitration, Entry}
 use Rattle.construct.specs.Lower as L
 use Rattle.construct.specs.Circuit.{cell_end, root}
 use Rattle.construct_floats.specs.Floats.{floats}
-use Rattle.builder_table.specs.declared.Builder.{Builder}
-use Rattle.builder_table.specs.Work.{Mem}
+use Rattle.builder_table.specs.Work.{Standing, Mem}
 use Rattle.builder_laws.proofs.Builder.{stands_one, stands_zero}
 use Rattle.lower_room.proofs.Uses.{down_use, down_more}
 use Rattle.builder_laws.proofs.Running.{Rows}
 use Rattle.builder_laws.proofs.Runs.{rows_kept, Ready, runs_none, runs_then, runs_less, runs_wide, ready_after}
-use Rattle.lower_passes.specs.declared.Down.{Down}
+use Rattle.lower_passes.specs.Marks.{Down}
 use Rattle.builder_table.specs.Slots.{next_cursor_from}
 use Rattle.lower_passes.specs.Reach.{Lowered, down, root_in, reach_in}
 use Rattle.lower_ordered_laws.proofs.Passes.{takes, roots, Sound, rows_in, NodesAt, ArbitrationsAt, EntriesAt}
@@ -59,7 +58,7 @@ past_next : (i c c' k : ℕ) → c ≤ c' → Past i c 0 k → Past (suc i) c' 0
 past_next i c c' k l p =
     (λ a e. p.0 (omega arith) e, λ a e. p.1 (omega arith) e, λ a e. p.2 (omega arith) e, λ a e. p.3 (omega arith) e, p.4, p.5)
 
-rows_append : (m : Mem) (b : Builder) (from : ℕ) (xs ys : List Affine) → Rows m b from xs → Rows m b (from + length xs) ys → Rows m b from (xs ++ ys)
+rows_append : (m : Mem) (b : Standing) (from : ℕ) (xs ys : List Affine) → Rows m b from xs → Rows m b (from + length xs) ys → Rows m b from (xs ++ ys)
 rows_append m b from [] ys h t = subst (λ (j : ℕ). Rows m b j ys) (add-zero from) t
 rows_append m b from (x ∷ xs) ys h t =
     let e : from + suc (length xs) ≡ suc from + length xs = omega arith in
@@ -67,7 +66,7 @@ rows_append m b from (x ∷ xs) ys h t =
 
 -- ---- a node, and those that come after it
 
-module _ {n cursorsAt i c rows : ℕ} {node : Flat} {x : Arbitration Affine} {e : Entry Affine} {es : List (Entry Affine)} {os : List (Op Affine)} {m : Mem} {b : Builder} {s : Lowered} {need more : ℕ}
+module _ {n cursorsAt i c rows : ℕ} {node : Flat} {x : Arbitration Affine} {e : Entry Affine} {es : List (Entry Affine)} {os : List (Op Affine)} {m : Mem} {b : Standing} {s : Lowered} {need more : ℕ}
     {f : Lowered} {d : L.Down Affine} where
   join : NodeRuns n cursorsAt i c rows node x e es os m b s → ReachRuns (suc i) (cell_after node c) need more s.mem s.down.builder f d → i < 128 → c ≤ cell_after node c → cell_after node c ≤ 128
       → ReachRuns i c (node_use n cursorsAt i c node x e os + need) (node_more node + more) m b f
@@ -164,7 +163,7 @@ module _ (n cursorsAt : ℕ) (kinds counts : List ℕ) where
 
 -- ---- from the root
 
-root_entry : {n : ℕ} {m : Mem} {b : Builder} {os : List (Op Affine)} → Ready n m b os → Entered 0 m b (root_in m) (root floats) os
+root_entry : {n : ℕ} {m : Mem} {b : Standing} {os : List (Op Affine)} → Ready n m b os → Entered 0 m b (root_in m) (root floats) os
 root_entry z = entry_law z 0 (omega arith) stands_one stands_zero
 
 pub reach_law : ReachLaw
@@ -192,7 +191,7 @@ reach_law m b kinds counts ns infos os w q h at s one l lc =
 
 -- ---- how many outputs and next cursors
 
-module _ (m : Mem) (b : Builder) where
+module _ (m : Mem) (b : Standing) where
   infos_nodes : (i : ℕ) (ns : List Flat) (xs : List (Arbitration Affine)) → ArbitrationsAt m b i ns xs → map (λ (x : Arbitration Affine). x.node) xs ≡ ns
   infos_nodes i [] [] h = refl
   infos_nodes i (n ∷ ns) (x ∷ xs) h = λ j. h.0.node j ∷ infos_nodes (suc i) ns xs h.1 j

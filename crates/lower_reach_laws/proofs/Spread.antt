@@ -10,8 +10,7 @@ use Rattle.wire.specs.Terms.{Affine}
 use Rattle.construct.specs.Builder.{Op, Out, and, or}
 use Rattle.construct.specs.Lower.{ArbitratedChild, Entry, Many, spread}
 use Rattle.construct_floats.specs.Floats.{floats}
-use Rattle.builder_table.specs.declared.Builder.{Builder}
-use Rattle.builder_table.specs.Work.{Mem, loaded, Stood}
+use Rattle.builder_table.specs.Work.{Standing, Mem, loaded, Stood}
 use Rattle.builder_laws.specs.Table.{Stands}
 use Rattle.lower_room.proofs.Uses.{or_use, spread_use}
 use Rattle.builder_laws.proofs.Running.{Not, Keeps, Runs, Rows}
@@ -32,15 +31,15 @@ Told d n k = Not (entry_reached_from + d) (entry_reached_from + d + n) k × Not 
 -- ---- one entry
 
 -- at depth d stands x
-pub record EntryAt (d : ℕ) (m : Mem) (b : Builder) (x : Entry Affine) : Type 0 where
+pub record EntryAt (d : ℕ) (m : Mem) (b : Standing) (x : Entry Affine) : Type 0 where
   pub reached : Stands m b (loaded m (entry_reached_from + d)) x.reached
   pub called : Stands m b (loaded m (entry_called_from + d)) x.called
 
-pub record Entered (d : ℕ) (m : Mem) (b : Builder) (m' : Mem) (x : Entry Affine) (os : List (Op Affine)) : Type 0 where
+pub record Entered (d : ℕ) (m : Mem) (b : Standing) (m' : Mem) (x : Entry Affine) (os : List (Op Affine)) : Type 0 where
   pub runs : Runs (Told d 1) m b m' b os 0 0
   pub entry : EntryAt d m' b x
 
-pub entry_law : {n : ℕ} {m : Mem} {b : Builder} {os : List (Op Affine)} {f g : Form} {x y : Affine} → Ready n m b os → (d : ℕ) → d < 128 → Stands m b f x → Stands m b g y
+pub entry_law : {n : ℕ} {m : Mem} {b : Standing} {os : List (Op Affine)} {f g : Form} {x y : Affine} → Ready n m b os → (d : ℕ) → d < 128 → Stands m b f x → Stands m b g y
     → Entered d m b (entry_in m d f g) (record { reached = x; called = y }) os
 unfolding entry_in
 entry_law r d l hx hy =
@@ -53,14 +52,14 @@ entry_law r d l hx hy =
     }
 
 -- an entry above others
-pub entries_push : {m : Mem} {b : Builder} {d : ℕ} {x : Entry Affine} → EntryAt d m b x → (es : List (Entry Affine)) → length es ≡ d → EntriesAt m b es → EntriesAt m b (x ∷ es)
+pub entries_push : {m : Mem} {b : Standing} {d : ℕ} {x : Entry Affine} → EntryAt d m b x → (es : List (Entry Affine)) → length es ≡ d → EntriesAt m b es → EntriesAt m b (x ∷ es)
 entries_push h es e t =
     record {
       reached = (rw (length-map es (λ (x : Entry Affine). x.reached) ∙ e) h.reached, t.reached);
       called = (rw (length-map es (λ (x : Entry Affine). x.called) ∙ e) h.called, t.called);
     }
 
-pub entry_kept : {K : ℕ → Type 0} {m : Mem} {b : Builder} {m' : Mem} {b' : Builder} → Keeps K m b m' b' → (d : ℕ) (x : Entry Affine) → d < 128 → K (entry_reached_from + d) → K (entry_called_from + d)
+pub entry_kept : {K : ℕ → Type 0} {m : Mem} {b : Standing} {m' : Mem} {b' : Standing} → Keeps K m b m' b' → (d : ℕ) (x : Entry Affine) → d < 128 → K (entry_reached_from + d) → K (entry_called_from + d)
     → EntryAt d m b x → EntryAt d m' b' x
 entry_kept g d x l p q h = record { reached = slot_kept g (entry_reached_from + d) (omega arith) p h.reached; called = slot_kept g (entry_called_from + d) (omega arith) q h.called }
 
@@ -76,12 +75,12 @@ stopped n r x os = and floats n r x.after_stop (ticks n r x os).ops
 abbrev halts : ℕ → Affine → Affine → ArbitratedChild Affine → List (Op Affine) → Out Affine
 halts n r h x os = or floats n h (stopped n r x os).form (stopped n r x os).ops
 
-record OneRuns (n d : ℕ) (m : Mem) (b : Builder) (r h : Affine) (x : ArbitratedChild Affine) (os : List (Op Affine)) (e : Stood) : Type 0 where
+record OneRuns (n d : ℕ) (m : Mem) (b : Standing) (r h : Affine) (x : ArbitratedChild Affine) (os : List (Op Affine)) (e : Stood) : Type 0 where
   runs : Runs (Told d 1) m b e.mem e.builder (halts n r h x os).ops (2 + or_use floats h (stopped n r x os).form) 3
   entry : EntryAt d e.mem e.builder (record { reached = (ticks n r x os).form; called = (halts n r h x os).form })
 
 module _ {n : ℕ} {f g : Form} {r h : Affine} where
-  one_law : {m : Mem} {b : Builder} {os : List (Op Affine)} → Ready n m b os → Stands m b f r → Stands m b g h → (row d : ℕ) (x : ArbitratedChild Affine) → d < 128
+  one_law : {m : Mem} {b : Standing} {os : List (Op Affine)} → Ready n m b os → Stands m b f r → Stands m b g h → (row d : ℕ) (x : ArbitratedChild Affine) → d < 128
       → Stands m b (loaded m (reach_from + row)) x.reach → Stands m b (loaded m (after_stop_from + row)) x.after_stop → OneRuns n d m b r h x os (spread_one_in m b f g row d)
   unfolding spread_one_in
   one_law z hr hh row d x l p q =
@@ -95,12 +94,12 @@ module _ {n : ℕ} {f g : Form} {r h : Affine} where
 
 -- ---- all children
 
-pub record SpreadRuns (d n need : ℕ) (m : Mem) (b : Builder) (es : List (Entry Affine)) (e : Stood) (s : Many Affine (Entry Affine)) : Type 0 where
+pub record SpreadRuns (d n need : ℕ) (m : Mem) (b : Standing) (es : List (Entry Affine)) (e : Stood) (s : Many Affine (Entry Affine)) : Type 0 where
   pub runs : Runs (Told d n) m b e.mem e.builder s.ops need (3 * n)
   pub entries : EntriesAt e.mem e.builder (s.items ++ es)
 
 module _ {n : ℕ} {f g : Form} {r h : Affine} (cursorsAt row : ℕ) (es : List (Entry Affine)) where
-  spread_from : {m : Mem} {b : Builder} {os : List (Op Affine)} → Ready n m b os → Stands m b f r → Stands m b g h → (k : ℕ) (xs : List (ArbitratedChild Affine)) → row + k + length xs ≤ 128
+  spread_from : {m : Mem} {b : Standing} {os : List (Op Affine)} → Ready n m b os → Stands m b f r → Stands m b g h → (k : ℕ) (xs : List (ArbitratedChild Affine)) → row + k + length xs ≤ 128
       → length es + length xs ≤ 128 → Rows m b (reach_from + (row + k)) (reaches xs) → Rows m b (after_stop_from + (row + k)) (afters xs) → EntriesAt m b es
       → SpreadRuns (length es) (length xs) (spread_use floats n r h xs os) m b es (spread_in m b f g row (length es) k (length xs)) (spread floats n cursorsAt r h xs os)
   unfolding spread_in spread spread_use
@@ -129,7 +128,7 @@ module _ {n : ℕ} {f g : Form} {r h : Affine} (cursorsAt row : ℕ) (es : List 
         entries = entries_push e (told ++ es) en rest.entries;
       }
 
-  pub spread_law : {m : Mem} {b : Builder} {os : List (Op Affine)} → Ready n m b os → Stands m b f r → Stands m b g h → (xs : List (ArbitratedChild Affine)) → row + length xs ≤ 128
+  pub spread_law : {m : Mem} {b : Standing} {os : List (Op Affine)} → Ready n m b os → Stands m b f r → Stands m b g h → (xs : List (ArbitratedChild Affine)) → row + length xs ≤ 128
       → length es + length xs ≤ 128 → Rows m b (reach_from + row) (reaches xs) → Rows m b (after_stop_from + row) (afters xs) → EntriesAt m b es
       → SpreadRuns (length es) (length xs) (spread_use floats n r h xs os) m b es (spread_in m b f g row (length es) 0 (length xs)) (spread floats n cursorsAt r h xs os)
   spread_law {m} {b} z hr hh xs l d p q t =

@@ -10,7 +10,7 @@ use Rattle.construct.specs.Lower.{Flat, leaf, fixed, invert, force, ordered, cel
 use Rattle.builder_table.specs.Work.{Mem}
 use Rattle.lower_room.proofs.Uses.{kids_of}
 use Rattle.lower_passes.specs.Arbitrate.{flat_at}
-use Rattle.lower_passes.specs.declared.Down.{Down}
+use Rattle.lower_passes.specs.Marks.{Down}
 use Rattle.lower_passes.specs.Reach.{Lowered, ready, stuck, node_in, step_within, reach_in}
 use Rattle.lower_reach_laws.proofs.Node.{node_reach, node_at}
 

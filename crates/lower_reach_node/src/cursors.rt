@@ -1,59 +1,32 @@
 // A cursor's next value: the arbitrated one if its composite is reached, and the present one if that is untouched. A halt puts it back to 0.
-ghost use Rattle.std.specs.Prelude.{◌≡◌, ◌≤◌, ◌<◌};
-ghost use Rattle.builder_table.specs.Work.{Whole, mem, stood};
+ghost use Rattle.std.specs.Prelude.{◌≤◌, ◌<◌};
+ghost use Rattle.builder_table.specs.Loans.{memory, standing, Leaves};
 ghost use Rattle.lower_passes.specs.Reach.{keep_in, cursor_in};
 
 use builder_table::{Builder, Table};
 use index::Wire;
 use wire::Form;
 
-// To the arbitrated cursor, which is 0 where the node is not reached, the current one is added where the node is untouched.
-fn keep_cursor(
-    wires: &mut [u32],
-    coefs: &mut [f32],
-    nums: &mut [usize],
-    biases: &mut [f32],
-    at: Builder,
-    moved: Form,
-    untouched: Form,
-    cell: usize,
-    nodes: usize,
-) -> Builder
-    requires { Whole nums.old biases.old × (cell < 128) × (nodes ≤ 128) }
-    ensures { stood wires.new coefs.new nums.new biases.new result
-        ≡ keep_in (mem wires.old coefs.old nums.old biases.old) at moved untouched cell nodes }
+#[tactic(auto, unfolding(lower_passes::specs::Reach::cursor_in))]
+pub fn next_cursor(b: &mut Builder, i: usize, cell: usize, nodes: usize)
+    requires { (i < 128) × (cell < 128) × (nodes ≤ 128) }
+    ensures { Leaves b.old b.new (cursor_in (memory b.old) (standing b.old) i cell nodes) }
 {
-    let w = builder_table::wire_form(wires, coefs, at, Wire((nodes + cell) as u32));
-    let now = w.form;
-    let u = w.builder;
-    let k = builder_table::push(wires, coefs, nums, biases, u, now, untouched);
-    let kept = k.form;
-    let v = k.builder;
-    let s = builder_table::plus(wires, coefs, v, moved, kept);
-    let f = s.form;
-    builder_table::save(nums, biases, Table::NEXT_CURSOR + cell, f);
-    s.builder
+    let cursor = b.load(Table::ARBITRATED + i);
+    let reached = b.load(Table::REACHED + i);
+    let moved = b.push(cursor, reached);
+    let untouched = b.load(Table::UNTOUCHED + i);
+    keep_cursor(b, moved, untouched, cell, nodes);
 }
 
-pub fn next_cursor(
-    wires: &mut [u32],
-    coefs: &mut [f32],
-    nums: &mut [usize],
-    biases: &mut [f32],
-    at: Builder,
-    i: usize,
-    cell: usize,
-    nodes: usize,
-) -> Builder
-    requires { Whole nums.old biases.old × (i < 128) × (cell < 128) × (nodes ≤ 128) }
-    ensures { stood wires.new coefs.new nums.new biases.new result
-        ≡ cursor_in (mem wires.old coefs.old nums.old biases.old) at i cell nodes }
+// To the arbitrated cursor, which is 0 where the node is not reached, the current one is added where the node is untouched.
+#[tactic(auto, unfolding(lower_passes::specs::Reach::keep_in))]
+fn keep_cursor(b: &mut Builder, moved: Form, untouched: Form, cell: usize, nodes: usize)
+    requires { (cell < 128) × (nodes ≤ 128) }
+    ensures { Leaves b.old b.new (keep_in (memory b.old) (standing b.old) moved untouched cell nodes) }
 {
-    let cursor = builder_table::load(nums, biases, Table::ARBITRATED + i);
-    let reached = builder_table::load(nums, biases, Table::REACHED + i);
-    let a = builder_table::push(wires, coefs, nums, biases, at, cursor, reached);
-    let moved = a.form;
-    let u = a.builder;
-    let untouched = builder_table::load(nums, biases, Table::UNTOUCHED + i);
-    keep_cursor(wires, coefs, nums, biases, u, moved, untouched, cell, nodes)
+    let now = b.wire_form(Wire((nodes + cell) as u32));
+    let kept = b.push(now, untouched);
+    let next = b.plus(moved, kept);
+    b.save(Table::NEXT_CURSOR + cell, next);
 }

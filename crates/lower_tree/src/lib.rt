@@ -2,94 +2,82 @@
 #![tactic(auto)]
 
 ghost use Rattle.std.specs.Prelude.{◌≡◌, true, ◌≤◌, length};
+ghost use Rattle.wire.specs.Lending.{LentAs};
 ghost use Rattle.tree.specs.Tree.{accepted, tree_of};
 ghost use Rattle.compile.specs.Compile.{lent, roomy, compile_tree};
-ghost use Rattle.builder_table.specs.Work.{Whole, mem};
-ghost use Rattle.lower_emit.specs.Emit.{Holds};
-ghost use Rattle.lower_emit.specs.Settle.{outcome};
+ghost use Rattle.compile.specs.Lending.{lent_in};
+ghost use Rattle.compile.specs.Lending.{LentAs as WorkLentAs};
+ghost use Rattle.builder_table.specs.Whole.{Whole};
+ghost use Rattle.builder_table.specs.Work.{mem};
+ghost use Rattle.lower_emit.specs.Written.{Holds};
+ghost use Rattle.lower_emit.specs.Settle.{outcome_in};
 ghost use Rattle.lower_emit_laws.specs.Built.{Builds};
-ghost use Rattle.lower_tree.specs.Steps.{Zeroed, nodes_held};
+ghost use Rattle.lower_tree.specs.Steps.{Zeroed};
 
-use compile::Compiled;
-use tree::Flattened;
+use arena::Arena;
+use arena_room::Room;
+use builder_table::Builder;
+use compile::WorkRoom;
+use index::NodeIndex;
+use tree_record::Refusal;
+use wire::{Counts, Storage};
 
-// The nodes of an accepted tree, of which building gives the circuit.
-fn lower_nodes(
-    nums: &mut [u32],
-    biases: &mut [f32],
-    wires: &mut [u32],
-    coefs: &mut [f32],
-    worknums: &mut [usize],
-    workbiases: &mut [f32],
-    workwires: &mut [u32],
-    workcoefs: &mut [f32],
+// The nodes of an accepted tree, of which building gives the circuit. The work room comes as its four slices: tried as the struct, and the proof did not
+// close, since of what an arena in a builder held nothing is known once the builder is gone, not even the lengths.
+fn lower_nodes<'a>(
     kinds: &[u8],
     counts: &[u16],
-) -> Compiled
-    requires whole { Whole worknums.old workbiases.old × Holds nums.old biases.old 0 × (length kinds.now ≤ 128) × (length counts.now ≡ length kinds.now) }
-    requires zeroed { Zeroed nums.old biases.old wires.old coefs.old }
-    requires builds { Builds (mem workwires.old workcoefs.old worknums.old workbiases.old) kinds.now counts.now }
-    ensures { outcome result nums.new biases.new wires.new coefs.new
-        ≡ compile_tree (lent (length nums.old) (length biases.old) (length wires.old) (length coefs.old) (length worknums.old) (length workbiases.old) (length workwires.old) (length workcoefs.old)) (accepted kinds.now counts.now) }
+    storage: &mut Storage,
+    nums: &'a mut [usize],
+    biases: &'a mut [f32],
+    wires: &'a mut [u32],
+    coefs: &'a mut [f32],
+) -> Result<Counts, Refusal>
+    requires nodes { (length kinds.now ≤ 128) × (length counts.now ≡ length kinds.now) }
+    requires whole { Whole nums.old biases.old }
+    requires holds { Holds storage.old 0 }
+    requires zeroed { Zeroed storage.old }
+    requires builds { Builds (mem wires.old coefs.old nums.old biases.old) kinds.now counts.now }
+    ensures lent { LentAs storage.old storage.new }
+    ensures outcome { outcome_in result storage.new
+        ≡ compile_tree (lent (length storage.old.nums.now) (length storage.old.biases.now) (length storage.old.wires.now) (length storage.old.coefs.now)
+        (length nums.old) (length biases.old) (length wires.old) (length coefs.old)) (accepted kinds.now counts.now) }
 {
-    let nodes = kinds.len();
-    let listed = lower_emit::write_lists(nums, kinds, counts);
-    let leaves = listed.leaves;
-    let cursors = listed.cursors;
-    let built = lower_build::build(
-        workwires, workcoefs, worknums, workbiases, kinds, counts, nodes, cursors, leaves,
-    );
-    let ops = built.ops;
-    lower_emit::settle(
-        nums, biases, wires, coefs, worknums, workbiases, workwires, workcoefs, ops, nodes,
-        cursors, leaves,
-    )
-}
-
-// How many nodes the slots hold: none where the tree is refused.
-fn nodes_held(flattened: Flattened) -> usize
-    ensures { result ≡ nodes_held flattened }
-{
-    match flattened {
-        Flattened::Accepted { nodes } => nodes,
-        Flattened::Refused(_) => 0,
-    }
+    let plan = lower_emit::write_lists(storage, kinds, counts);
+    let room = Room { used: 0, ok: true };
+    let mut b = Builder {
+        arena: Arena { wires, coefs, room },
+        nums,
+        biases,
+        ops: 0,
+        cells: 0,
+    };
+    lower_build::build(&mut b, kinds, counts, plan.nodes, plan.cursors, plan.leaves);
+    lower_emit::settle(storage, &b, plan)
 }
 
 // The tree of these bytes. The circuit's storage is zero, and enough is lent.
+#[tactic(auto, unfolding(compile::specs::Compile::roomy))]
 pub fn lower_tree(
     tree: &[u8],
-    nums: &mut [u32],
-    biases: &mut [f32],
-    wires: &mut [u32],
-    coefs: &mut [f32],
-    worknums: &mut [usize],
-    workbiases: &mut [f32],
-    workwires: &mut [u32],
-    workcoefs: &mut [f32],
-) -> Compiled
-    requires workcoefs_value { roomy (lent (length nums.old) (length biases.old) (length wires.old) (length coefs.old) (length worknums.old) (length workbiases.old) (length workwires.old) (length workcoefs.old)) ≡ true }
-    requires zeroed { Zeroed nums.old biases.old wires.old coefs.old }
-    ensures { outcome result nums.new biases.new wires.new coefs.new
-        ≡ compile_tree (lent (length nums.old) (length biases.old) (length wires.old) (length coefs.old) (length worknums.old) (length workbiases.old) (length workwires.old) (length workcoefs.old)) (tree_of tree.now) }
+    storage: &mut Storage,
+    work: &mut WorkRoom,
+) -> Result<Counts, Refusal>
+    requires enough { roomy (lent_in storage.old work.old) ≡ true }
+    requires zeroed { Zeroed storage.old }
+    ensures lent { LentAs storage.old storage.new × WorkLentAs work.old work.new }
+    ensures outcome { outcome_in result storage.new ≡ compile_tree (lent_in storage.old work.old) (tree_of tree.now) }
 {
-    let mut kinds = [0u8; 128];
-    let mut counts = [0u16; 128];
-    let flattened = tree::flatten(tree, &mut kinds, &mut counts);
-    let Flattened::Refused(refusal) = flattened else {
-        let nodes = nodes_held(flattened);
-        return lower_nodes(
-            nums,
-            biases,
-            wires,
-            coefs,
-            worknums,
-            workbiases,
-            workwires,
-            workcoefs,
-            &kinds[0..nodes],
-            &counts[0..nodes],
-        );
-    };
-    Compiled::Refused(refusal)
+    let mut kinds = [0u8; NodeIndex::LIMIT];
+    let mut counts = [0u16; NodeIndex::LIMIT];
+    let nodes = tree::flatten(tree, &mut kinds, &mut counts)?;
+    lower_nodes(
+        &kinds[..nodes],
+        &counts[..nodes],
+        storage,
+        work.nums,
+        work.biases,
+        work.wires,
+        work.coefs,
+    )
 }

@@ -78,9 +78,9 @@ pub extern "C" fn palthengi_compile(
     workwires: &mut [u32],
     workcoefs: &mut [f32],
 ) -> Compilation
-    ensures coefs_after { made result nums.new biases.new wires.new coefs.new
+    ensures outcome { made result nums.new biases.new wires.new coefs.new
         ≡ tell_made (compile.compile_of (compile.lent (length nums.old) (length biases.old) (length wires.old) (length coefs.old) (length worknums.old) (length workbiases.old) (length workwires.old) (length workcoefs.old)) tree.now) }
-    ensures worknums_after { (worknums.new ≡ zeros worknums.old) × (workbiases.new ≡ zeros32 workbiases.old)
+    ensures work_wiped { (worknums.new ≡ zeros worknums.old) × (workbiases.new ≡ zeros32 workbiases.old)
         × (workwires.new ≡ zeros workwires.old) × (workcoefs.new ≡ zeros32 workcoefs.old) }
 {
     palthengi::palthengi_compile(

@@ -1,18 +1,12 @@
 -- What the lists of a plan are: for a tree the report order is its post-order (`report_tree`); whatever the lists, it holds each node once
 -- (`report_once`, `report_length`), and the leaf and cursor lists strictly rise below the number of nodes (`places_rise`, `places_few`).
---
-use mathlib.Core.Path.{◌≡◌, refl, sym, ◌∙◌, ap}
-use mathlib.Core.Bool.{Bool, true, false}
-use mathlib.Core.List.{List, [], ◌∷◌, ◌++◌, map, append_assoc, append-nil}
-use Prim.Native.Nat.{ℕ, zero, suc, ◌+◌, ◌-◌, ◌≤◌, ◌<◌, min}
-use native.Mathlib.Omega.{arith}
-use borrow.Author.Tests.{eqb-true, eqb-false, ne_eqb}
-use lib.Dec.{eqb}
-use lib.ListN.{length, length-append, length-take}
-use lib.Seq.{take_all}
+use Rattle.std.proofs.Common.{◌≡◌, refl, sym, ◌∙◌, ap, Bool, true, false, List, [], ◌∷◌, ◌++◌, map, append_assoc, append-nil, ℕ, zero, suc, ◌+◌, ◌-◌, ◌≤◌}
+use Rattle.std.proofs.Common.{◌<◌, min, arith, eqb-true, ne_eqb, eqb, length, length-append, length-take, take_all}
+use borrow.Author.Tests.{eqb-false}
 use Rattle.tree.proofs.Lengths.{counts_length}
 use Rattle.tree.specs.Forest.{Forest, none, node, width, size, counts}
-use Rattle.plan.specs.Plan.{nodes_in, listed, places_from, numbered, postorder, report_in, Open, pending, number_of, closed, still, one_less, report_of, times, Rising}
+use Rattle.plan.specs.Plan.{nodes_in, listed, places_from, numbered, postorder, report_in, Open, pending, number_of, closed, still, one_less, report_of}
+use Rattle.plan.specs.Plan.{times, Rising}
 use Rattle.plan.proofs.Reports.{rest_of, all_open}
 
 -- a forest below an open node is reported in post-order, before what is open

@@ -1,63 +1,50 @@
 -- The loop that lists the nodes of two kinds: what holds at its head, and that each way through a turn keeps it.
---
-use mathlib.Core.Path.{◌≡◌, refl, ◌∙◌, ap}
-use mathlib.Core.Bool.{Bool, true, false}
-use mathlib.Core.List.{List, [], ◌∷◌}
-use Prim.Native.Nat.{ℕ, suc, ◌+◌, ◌≤◌, ◌<◌, min}
-use native.Mathlib.Numerals.{add-one}
-use native.Mathlib.Omega.{arith}
-use lib.ListN.{length, get_or, set, drop, length-take, drop_of_length-le}
-use lib.Seq.{drop-cons, get_or-take}
-use Rattle.plan.specs.Plan.{nodes_in, listed, places_from}
-use Rattle.plan.proofs.Said.{Said, said_none, said_more, said_as}
+use Rattle.std.proofs.Common.{◌⊎◌, inl, inr, eqb, ◌||◌, eq-eqb, ne_eqb, ◌≡◌, refl, ◌∙◌, ap, Bool, true, false, List, [], ◌∷◌, ℕ, suc, ◌+◌, ◌≤◌, ◌<◌, add-one}
+use Rattle.std.proofs.Common.{arith, length, get_or, set, drop, drop_of_length-le, drop-cons}
+use Rattle.std.proofs.Math.Seq.{sets}
+use Rattle.plan.specs.Plan.{listed, places_from, either_kind}
+use Rattle.plan.proofs.Said.{Said, said_none, said_more, said_as, said_all}
 
 -- two tests that always agree list the same
-pub same_test : (p q : ℕ → Bool) → ((k : ℕ) → p k ≡ q k) → (n : ℕ) (kinds : List ℕ) → places_from p n kinds ≡ places_from q n kinds
+same_test : (p q : ℕ → Bool) → ((k : ℕ) → p k ≡ q k) → (n : ℕ) (kinds : List ℕ) → places_from p n kinds ≡ places_from q n kinds
 same_test p q e n [] = refl
 same_test p q e n (k ∷ kinds) = rw (e k, same_test p q e (suc n) kinds)
 
-pub record At (test : ℕ → Bool) (kinds entry now : List ℕ) (nodes found node : ℕ) : Type 0 where
-  pub few : node ≤ nodes
+-- a leaf is of kind 1, or of kind 1
+pub same_leaves : (kinds : List ℕ) → places_from (either_kind 1 1) 0 kinds ≡ places_from (λ kind. eqb kind 1) 0 kinds
+same_leaves kinds = same_test _ _ (λ kind. twice (eqb kind 1)) 0 kinds
+  where
+    twice : (b : Bool) → (b || b) ≡ b
+    twice true = refl
+    twice false = refl
+
+pub either_true : (one other kind : ℕ) → (kind ≡ one) ⊎ ((kind ≡ one → ⊥) × (kind ≡ other)) → either_kind one other kind ≡ true
+either_true one other kind (inl e) = rw (eq-eqb kind one e)
+either_true one other kind (inr h) = rw (ne_eqb kind one h.0, eq-eqb kind other h.1)
+
+pub either_false : (one other kind : ℕ) → (kind ≡ one → ⊥) → (kind ≡ other → ⊥) → either_kind one other kind ≡ false
+either_false one other kind n m = rw (ne_eqb kind one n, ne_eqb kind other m)
+
+-- the first of the nodes are passed, and those among them that pass the test are listed
+pub record At (test : ℕ → Bool) (kinds entry now : List ℕ) (found node : ℕ) : Type 0 where
   pub fewer : found ≤ node
-  pub counted : nodes ≡ min (length kinds) 128
-  pub said : Said (places_from test 0 (nodes_in kinds)) entry now found (places_from test node (drop node (nodes_in kinds)))
+  pub said : Said (places_from test 0 kinds) entry now found (places_from test node (drop node kinds))
 
-pub start : (test : ℕ → Bool) (kinds entry : List ℕ) (nodes : ℕ) → nodes ≡ min (length kinds) 128 → At test kinds entry entry nodes 0 0
-start test kinds entry nodes e = record { few = omega arith; fewer = omega arith; counted = e; said = said_none _ entry }
+pub start : (test : ℕ → Bool) (kinds entry : List ℕ) → At test kinds entry entry 0 0
+start test kinds entry = record { fewer = omega arith; said = said_none _ entry }
 
-module _ (test : ℕ → Bool) (kinds entry now : List ℕ) (nodes found node : ℕ) (a : At test kinds entry now nodes found node) where
-  long : length (nodes_in kinds) ≡ nodes
-  long = length-take 128 kinds ∙ omega (arith, a.counted)
+module _ (test : ℕ → Bool) (kinds entry now : List ℕ) (found node : ℕ) (a : At test kinds entry now found node) where
+  next : node < length kinds
+      → places_from test node (drop node kinds) ≡ listed (test (get_or kinds node 0)) node (places_from test (node + 1) (drop (node + 1) kinds))
+  next h = rw (add-one node, drop-cons kinds node 0 h)
 
-  next : node < nodes
-      → places_from test node (drop node (nodes_in kinds))
-      ≡ listed (test (get_or kinds node 0)) node (places_from test (node + 1) (drop (node + 1) (nodes_in kinds)))
-  next h =
-      let l = long in
-      let c = a.counted in
-      let d : node < length (nodes_in kinds) = omega arith in
-      rw (add-one node, drop-cons (nodes_in kinds) node 0 d, get_or-take 128 kinds node 0 (omega arith))
-
-  pub passed : node < nodes → test (get_or kinds node 0) ≡ true → At test kinds entry (set now found node) nodes (found + 1) (node + 1)
+  pub passed : node < length kinds → test (get_or kinds node 0) ≡ true → At test kinds entry (set now found node) (found + 1) (node + 1)
   passed h t =
-      let r = places_from test (node + 1) (drop (node + 1) (nodes_in kinds)) in
-      record {
-        few = omega arith;
-        fewer = omega (arith, a.fewer);
-        counted = a.counted;
-        said = said_more node r (said_as _ (node ∷ r) (next h ∙ rw t) a.said);
-      }
+      let r = places_from test (node + 1) (drop (node + 1) kinds) in
+      record { fewer = omega (arith, a.fewer); said = said_more node r (said_as _ (node ∷ r) (next h ∙ rw t) a.said) }
 
-  pub failed : node < nodes → test (get_or kinds node 0) ≡ false → At test kinds entry now nodes found (node + 1)
-  failed h t = record {
-    few = omega arith;
-    fewer = omega (arith, a.fewer);
-    counted = a.counted;
-    said = said_as _ _ (next h ∙ rw t) a.said;
-  }
+  pub failed : node < length kinds → test (get_or kinds node 0) ≡ false → At test kinds entry now found (node + 1)
+  failed h t = record { fewer = omega (arith, a.fewer); said = said_as _ _ (next h ∙ rw t) a.said }
 
-  pub ended : nodes ≤ node → Said (places_from test 0 (nodes_in kinds)) entry now found []
-  ended h =
-      let l = long in
-      let d = a.few in
-      said_as _ [] (ap (places_from test node) (drop_of_length-le (nodes_in kinds) {i = node} (omega arith))) a.said
+  pub ended : length kinds ≤ node → (found ≡ length (places_from test 0 kinds)) × (now ≡ sets entry 0 (places_from test 0 kinds))
+  ended h = said_all (said_as _ [] (ap (places_from test node) (drop_of_length-le kinds {i = node} h)) a.said)

@@ -1,18 +1,10 @@
--- The loop that lists the nodes in report order: what holds at its head, and that each way through a turn keeps it.
---
-use mathlib.Core.Path.{◌≡◌, refl, sym, ◌∙◌, ap}
-use mathlib.Core.Bool.{Bool, true, false, ◌||◌}
-use mathlib.Core.List.{List, [], ◌∷◌, ◌++◌, map}
-use Prim.Native.Nat.{ℕ, zero, suc, ◌+◌, ◌-◌, ◌≤◌, ◌<◌, min}
-use native.Mathlib.Nat.{not-suc-le-zero}
-use native.Mathlib.Numerals.{add-one}
-use native.Mathlib.Omega.{arith}
-use borrow.Author.Tests.{eqb-true, eqb-false, leb-true, leb-false}
-use lib.Dec.{eqb, leb}
-use lib.ListN.{length, get_or, set, drop, replicate, length-set, length-take, drop_of_length-le}
-use lib.Seq.{drop-cons, get_or-take, get_or-set_same, get_or-set_other}
-use Rattle.plan.specs.Plan.{nodes_in, Open, pending, number_of, closed, still, one_less, report_from, report_of}
-use Rattle.plan.proofs.Said.{Said, said_none, said_more, said_as}
+-- The loops that list the nodes in report order: what holds at their heads, and that each way through a turn keeps it.
+use Rattle.std.proofs.Common.{◌≡◌, refl, sym, ◌∙◌, ap, ◌⊎◌, inl, inr, List, [], ◌∷◌, ◌++◌, map, ℕ, zero, suc, ◌+◌, ◌-◌, ◌≤◌, ◌<◌, not-suc-le-zero, add-one}
+use Rattle.std.proofs.Common.{arith, length, get_or, set, drop, replicate, length-set, drop_of_length-le, drop-cons, get_or-set_same, get_or-set_other}
+use Rattle.std.proofs.Math.Seq.{sets}
+use Rattle.plan.specs.declared.lists.Open.{Open as Slot}
+use Rattle.plan.specs.Plan.{Open, pending, number_of, closed, still, one_less, report_from}
+use Rattle.plan.proofs.Said.{Said, said_none, said_more, said_as, said_all}
 
 -- what is still to be reported: the nodes that are closed now, and what follows
 abbrev pub rest_of : List ℕ → ℕ → List Open → List ℕ
@@ -28,179 +20,145 @@ last_closed : (n m due : ℕ) (outer : List Open) → rest_of [] n (pending m du
 last_closed n m zero outer = refl
 last_closed n m (suc due) outer = ap (λ (r : List ℕ). m ∷ r) (sym (all_open outer))
 
--- the open nodes in two arrays, from slot 1 on
-abbrev pub stack_of : List ℕ → List ℕ → ℕ → List Open
-stack_of numbers due zero = []
-stack_of numbers due (suc d) = pending (get_or numbers (suc d) 0) (get_or due (suc d) 0) ∷ stack_of numbers due d
+-- the open nodes in an array, from slot 1 on
+abbrev pub empty : Slot
+empty = record { node = 0; due = 0 }
 
-stack_top : (numbers due : List ℕ) (d : ℕ) → 0 < d → stack_of numbers due d ≡ pending (get_or numbers d 0) (get_or due d 0) ∷ stack_of numbers due (d - 1)
-stack_top numbers due zero h = absurd (not-suc-le-zero h)
-stack_top numbers due (suc d) h = let e : suc d - 1 ≡ d = omega arith in rw e
+abbrev pub slot : List Slot → ℕ → Slot
+slot stack d = get_or stack d empty
+
+abbrev pub stack_of : List Slot → ℕ → List Open
+stack_of stack zero = []
+stack_of stack (suc d) = pending (slot stack (suc d)).node (slot stack (suc d)).due ∷ stack_of stack d
+
+stack_top : (stack : List Slot) (d : ℕ) → 0 < d → stack_of stack d ≡ pending (slot stack d).node (slot stack d).due ∷ stack_of stack (d - 1)
+stack_top stack zero h = absurd (not-suc-le-zero h)
+stack_top stack (suc d) h = let e : suc d - 1 ≡ d = omega arith in rw e
 
 -- a store above the top is not seen
-number_above : (numbers due : List ℕ) (i v d : ℕ) → d < i → stack_of (set numbers i v) due d ≡ stack_of numbers due d
-number_above numbers due i v zero h = refl
-number_above numbers due i v (suc d) h =
-    rw (get_or-set_other numbers i (suc d) v 0 (omega arith), number_above numbers due i v d (omega arith))
+stack_above : (stack : List Slot) (i : ℕ) (s : Slot) (d : ℕ) → d < i → stack_of (set stack i s) d ≡ stack_of stack d
+stack_above stack i s zero h = refl
+stack_above stack i s (suc d) h = rw (get_or-set_other stack i (suc d) s empty (omega arith), stack_above stack i s d (omega arith))
 
-due_above : (numbers due : List ℕ) (i v d : ℕ) → d < i → stack_of numbers (set due i v) d ≡ stack_of numbers due d
-due_above numbers due i v zero h = refl
-due_above numbers due i v (suc d) h =
-    rw (get_or-set_other due i (suc d) v 0 (omega arith), due_above numbers due i v d (omega arith))
+-- one child less to come
+abbrev pub less : Slot → Slot
+less s = record { node = s.node; due = s.due - 1 }
 
--- the innermost node has one child less to come
-less_due : (numbers due : List ℕ) (d : ℕ) → d < length due
-    → stack_of numbers (set due d (get_or due d 0 - 1)) d ≡ one_less (stack_of numbers due d)
-less_due numbers due zero h = refl
-less_due numbers due (suc d) h =
-    rw (get_or-set_same due (suc d) (get_or due (suc d) 0 - 1) 0 h, due_above numbers due (suc d) (get_or due (suc d) 0 - 1) d (omega arith))
+-- of the innermost node
+stack_less : (stack : List Slot) (d : ℕ) → d < length stack → stack_of (set stack d (less (slot stack d))) d ≡ one_less (stack_of stack d)
+stack_less stack zero h = refl
+stack_less stack (suc d) h =
+    rw (get_or-set_same stack (suc d) _ empty h, stack_above stack (suc d) (less (slot stack (suc d))) d (omega arith))
 
 -- a node is opened
-pushed : (numbers due : List ℕ) (d n c : ℕ) → suc d < length due → suc d < length numbers
-    → stack_of (set numbers (d + 1) n) (set (set due d (get_or due d 0 - 1)) (d + 1) c) (d + 1) ≡ pending n c ∷ one_less (stack_of numbers due d)
-pushed numbers due d n c h k =
-    let due₁ = set due d (get_or due d 0 - 1) in
-    let h₁ : suc d < length due₁ = rw length-set h in
+pushed : (stack : List Slot) (d n c : ℕ) → suc d < length stack
+    → stack_of (set (set stack d (less (slot stack d))) (d + 1) (record { node = n; due = c })) (d + 1) ≡ pending n c ∷ one_less (stack_of stack d)
+pushed stack d n c h =
+    let stack₁ = set stack d (less (slot stack d)) in
+    let h₁ : suc d < length stack₁ = rw length-set h in
     rw (
       add-one d,
-      get_or-set_same numbers (suc d) n 0 k,
-      get_or-set_same due₁ (suc d) c 0 h₁,
-      number_above numbers (set due₁ (suc d) c) (suc d) n d (omega arith),
-      due_above numbers due₁ (suc d) c d (omega arith),
-      less_due numbers due d (omega arith),
+      get_or-set_same stack₁ (suc d) (record { node = n; due = c }) empty h₁,
+      stack_above stack₁ (suc d) (record { node = n; due = c }) d (omega arith),
+      stack_less stack d (omega arith),
     )
 
 -- a node is opened where the innermost open one, if there is one, has a child to come
-opened : (counts : List ℕ) (n c : ℕ) (numbers due : List ℕ) (d : ℕ) → (get_or due d 0 ≡ 0 → ⊥)
-    → rest_of (c ∷ counts) n (stack_of numbers due d) ≡ rest_of counts (suc n) (pending n c ∷ one_less (stack_of numbers due d))
-opened counts n c numbers due zero h = refl
-opened counts n c numbers due (suc d) h = go (get_or due (suc d) 0) h
+opened : (counts : List ℕ) (n c : ℕ) (stack : List Slot) (d : ℕ) → 0 < (slot stack d).due
+    → rest_of (c ∷ counts) n (stack_of stack d) ≡ rest_of counts (suc n) (pending n c ∷ one_less (stack_of stack d))
+opened counts n c stack zero h = refl
+opened counts n c stack (suc d) h = go (slot stack (suc d)).due h
   where
-    go : (t : ℕ) → (t ≡ 0 → ⊥)
-        → rest_of (c ∷ counts) n (pending (get_or numbers (suc d) 0) t ∷ stack_of numbers due d)
-        ≡ rest_of counts (suc n) (pending n c ∷ one_less (pending (get_or numbers (suc d) 0) t ∷ stack_of numbers due d))
-    go zero k = absurd (k refl)
+    go : (t : ℕ) → 0 < t
+        → rest_of (c ∷ counts) n (pending (slot stack (suc d)).node t ∷ stack_of stack d)
+        ≡ rest_of counts (suc n) (pending n c ∷ one_less (pending (slot stack (suc d)).node t ∷ stack_of stack d))
+    go zero k = absurd (not-suc-le-zero k)
     go (suc t) k = refl
 
-nonzero : (n : ℕ) → (n ≡ 0 → ⊥) → 0 < n
-nonzero zero h = absurd (h refl)
-nonzero (suc n) h = omega arith
-
 -- the roots that may still come are more than the nodes that are left
-rooted : (due : List ℕ) (depth c node : ℕ) → depth < length due → 0 < get_or due depth 0 → 129 ≤ get_or due 0 0 + node
-    → 129 ≤ get_or (set (set due depth (get_or due depth 0 - 1)) (depth + 1) c) 0 0 + (node + 1)
-rooted due zero c node l h r = rw (get_or-set_other (set due 0 (get_or due 0 0 - 1)) 1 0 c 0 (omega arith), get_or-set_same due 0 (get_or due 0 0 - 1) 0 l) (omega arith)
-rooted due (suc d) c node l h r =
-    let due₁ = set due (suc d) (get_or due (suc d) 0 - 1) in
-    rw (get_or-set_other due₁ (suc d + 1) 0 c 0 (omega arith), get_or-set_other due (suc d) 0 (get_or due (suc d) 0 - 1) 0 (omega arith)) (omega arith)
+rooted : (stack : List Slot) (depth : ℕ) (s : Slot) (node : ℕ) → depth < length stack → 0 < (slot stack depth).due → 129 ≤ (slot stack 0).due + node
+    → 129 ≤ (slot (set (set stack depth (less (slot stack depth))) (depth + 1) s) 0).due + (node + 1)
+rooted stack zero s node l h r =
+    rw (get_or-set_other (set stack 0 (less (slot stack 0))) 1 0 s empty (omega arith), get_or-set_same stack 0 (less (slot stack 0)) empty l)
+    (omega arith)
+rooted stack (suc d) s node l h r =
+    let stack₁ = set stack (suc d) (less (slot stack (suc d))) in
+    rw (get_or-set_other stack₁ (suc d + 1) 0 s empty (omega arith), get_or-set_other stack (suc d) 0 (less (slot stack (suc d))) empty (omega arith))
+    (omega arith)
 
-pub record At (counts entry now numbers due : List ℕ) (nodes depth node done : ℕ) : Type 0 where
-  pub counted : nodes ≡ min (length counts) 128
-  pub read : node ≤ nodes
+-- the nodes before `node` are read, those before `done` are reported, and the others stand in the slots up to `depth`
+pub record At (nodes entry now : List ℕ) (stack : List Slot) (depth node done : ℕ) : Type 0 where
+  pub few : length nodes ≤ 128
+  pub read : node ≤ length nodes
   pub parts : done + depth ≡ node
-  pub numbers_long : length numbers ≡ 129
-  pub due_long : length due ≡ 129
-  pub roots : 129 ≤ get_or due 0 0 + node
-  pub said : Said (report_of counts) entry now done (rest_of (drop node (nodes_in counts)) node (stack_of numbers due depth))
+  pub long : length stack ≡ 129
+  pub roots : 129 ≤ (slot stack 0).due + node
+  pub said : Said (report_from nodes 0 []) entry now done (rest_of (drop node nodes) node (stack_of stack depth))
 
-pub start : (counts entry : List ℕ) (nodes : ℕ) → nodes ≡ min (length counts) 128
-    → At counts entry entry (replicate 129 0) (set (replicate 129 0) 0 129) nodes 0 0 0
-unfolding report_of
-start counts entry nodes e = record {
-  counted = e;
+pub start : (nodes entry : List ℕ) → length nodes ≤ 128
+    → At nodes entry entry (set (replicate 129 empty) 0 (record { node = 0; due = 129 })) 0 0 0
+start nodes entry h = record {
+  few = h;
   read = omega arith;
   parts = refl;
-  numbers_long = refl;
-  due_long = refl;
+  long = refl;
   roots = omega arith;
-  said = said_none (report_of counts) entry;
+  said = said_none _ entry;
 }
 
-module _ (counts entry now numbers due : List ℕ) (nodes depth node done : ℕ) (a : At counts entry now numbers due nodes depth node done) where
-  long : length (nodes_in counts) ≡ nodes
-  long = length-take 128 counts ∙ omega (arith, a.counted)
-
+module _ {nodes entry now : List ℕ} {stack : List Slot} {depth node done : ℕ} (a : At nodes entry now stack depth node done) where
   popped : 0 < depth
-      → rest_of (drop node (nodes_in counts)) node (stack_of numbers due depth)
-      ≡ get_or numbers depth 0 ∷ rest_of (drop node (nodes_in counts)) node (stack_of numbers due (depth - 1))
-      → At counts entry (set now done (get_or numbers depth 0)) numbers due nodes (depth - 1) node (done + 1)
-  popped h e =
-      let p = a.parts in
-      record {
-        counted = a.counted;
-        read = a.read;
-        parts = omega arith;
-        numbers_long = a.numbers_long;
-        due_long = a.due_long;
-        roots = a.roots;
-        said = said_more (get_or numbers depth 0) _ (said_as _ _ e a.said);
-      }
+      → rest_of (drop node nodes) node (stack_of stack depth) ≡ (slot stack depth).node ∷ rest_of (drop node nodes) node (stack_of stack (depth - 1))
+      → At nodes entry (set now done (slot stack depth).node) stack (depth - 1) node (done + 1)
+  popped h e = record {
+    few = a.few;
+    read = a.read;
+    parts = omega (arith, a.parts);
+    long = a.long;
+    roots = a.roots;
+    said = said_more (slot stack depth).node _ (said_as _ _ e a.said);
+  }
 
   -- a node is closed: it has no child to come, or none is left to read
-  pub closes : done < nodes → (eqb (get_or due depth 0) 0 || leb nodes node) ≡ true
-      → (0 < depth) × At counts entry (set now done (get_or numbers depth 0)) numbers due nodes (depth - 1) node (done + 1)
-  closes h t = go (eqb (get_or due depth 0) 0) (leb nodes node) refl refl t
+  pub closes : done < length nodes → ((slot stack depth).due ≤ 0) ⊎ (length nodes ≤ node)
+      → (0 < depth) × At nodes entry (set now done (slot stack depth).node) stack (depth - 1) node (done + 1)
+  closes h (inl e) =
+      let inside : 0 < depth = within depth e in
+      let none : (slot stack depth).due ≡ 0 = omega arith in
+      (inside, popped inside (rw (stack_top stack depth inside, none)))
     where
-      go : (b d : Bool) → eqb (get_or due depth 0) 0 ≡ b → leb nodes node ≡ d → (b || d) ≡ true
-          → (0 < depth) × At counts entry (set now done (get_or numbers depth 0)) numbers due nodes (depth - 1) node (done + 1)
-      go true d e f u =
-          let top : get_or due depth 0 ≡ 0 = eqb-true (get_or due depth 0) 0 e in
-          let r = a.roots in let m = a.read in let c = a.counted in
-          let h' : 0 < depth = inner depth top in
-          (h', popped h' (rw (stack_top numbers due depth h', top)))
-        where
-          inner : (d : ℕ) → get_or due d 0 ≡ 0 → 0 < d
-          inner zero z = absurd (omega (arith, a.roots, a.read, a.counted))
-          inner (suc d) z = omega arith
-      go false true e f u =
-          let p = a.parts in
-          let m : nodes ≤ node = leb-true nodes node f in
-          let h' : 0 < depth = omega arith in
-          let l = long in
-          let z : drop node (nodes_in counts) ≡ [] = drop_of_length-le (nodes_in counts) {i = node} (omega arith) in
-          (h', popped h' (rw (stack_top numbers due depth h', z) (last_closed node (get_or numbers depth 0) (get_or due depth 0) (stack_of numbers due (depth - 1)))))
-      go false false e f u = let z : ◌≡◌ {A = ℕ} 0 1 = cc in absurd (omega arith)
+      within : (d : ℕ) → (slot stack d).due ≤ 0 → 0 < d
+      within zero z = absurd (omega (arith, a.roots, a.read, a.few))
+      within (suc d) z = omega arith
+  closes h (inr m) =
+      let inside : 0 < depth = omega (arith, a.parts) in
+      (inside, popped inside (rw (stack_top stack depth inside, drop_of_length-le nodes {i = node} m) (last_closed node _ _ (stack_of stack (depth - 1)))))
 
   -- a node is opened
-  pub opens : (eqb (get_or due depth 0) 0 || leb nodes node) ≡ false
-      → (node < nodes) × (0 < get_or due depth 0)
-      × At counts entry now (set numbers (depth + 1) node) (set (set due depth (get_or due depth 0 - 1)) (depth + 1) (get_or counts node 0)) nodes (depth + 1) (node + 1) done
-  opens t = go (eqb (get_or due depth 0) 0) (leb nodes node) refl refl t
-    where
-      go : (b d : Bool) → eqb (get_or due depth 0) 0 ≡ b → leb nodes node ≡ d → (b || d) ≡ false
-          → (node < nodes) × (0 < get_or due depth 0)
-          × At counts entry now (set numbers (depth + 1) node) (set (set due depth (get_or due depth 0 - 1)) (depth + 1) (get_or counts node 0)) nodes (depth + 1) (node + 1) done
-      go true d e f u = let z : ◌≡◌ {A = ℕ} 0 1 = cc in absurd (omega arith)
-      go false true e f u = let z : ◌≡◌ {A = ℕ} 0 1 = cc in absurd (omega arith)
-      go false false e f u =
-          let top = eqb-false (get_or due depth 0) 0 e in
-          let h : node < nodes = leb-false nodes node f in
-          let pos : 0 < get_or due depth 0 = nonzero (get_or due depth 0) top in
-          let p = a.parts in let c = a.counted in let l = long in
-          let nl = a.numbers_long in let dl = a.due_long in
-          let next : drop node (nodes_in counts) ≡ get_or counts node 0 ∷ drop (node + 1) (nodes_in counts)
-          = rw (add-one node, drop-cons (nodes_in counts) node 0 (omega arith), get_or-take 128 counts node 0 (omega arith)) in (
-            h,
-            pos,
-            record {
-              counted = a.counted;
-              read = omega arith;
-              parts = omega arith;
-              numbers_long = length-set numbers (depth + 1) node ∙ nl;
-              due_long = length-set (set due depth (get_or due depth 0 - 1)) (depth + 1) (get_or counts node 0) ∙ length-set due depth (get_or due depth 0 - 1) ∙ dl;
-              roots = rooted due depth (get_or counts node 0) node (omega arith) pos a.roots;
-              said = said_as _ _
-                  (ap (λ (r : List ℕ). rest_of r node (stack_of numbers due depth)) next
-                  ∙ opened (drop (node + 1) (nodes_in counts)) node (get_or counts node 0) numbers due depth top
-                  ∙ (λ i. rest_of (drop (node + 1) (nodes_in counts)) (sym (add-one node) i) (sym (pushed numbers due depth node (get_or counts node 0) (omega arith) (omega arith)) i)))
-                  a.said;
-            },
-          )
+  pub opens : 0 < (slot stack depth).due → node < length nodes
+      → At nodes entry now (set (set stack depth (less (slot stack depth))) (depth + 1) (record { node = node; due = get_or nodes node 0 }))
+      (depth + 1) (node + 1) done
+  opens t h =
+      let p = a.parts in
+      let l = a.long in
+      let f = a.few in
+      let next : drop node nodes ≡ get_or nodes node 0 ∷ drop (node + 1) nodes = rw (add-one node) (drop-cons nodes node 0 h) in
+      record {
+        few = f;
+        read = omega arith;
+        parts = omega arith;
+        long = simp length-set l;
+        roots = rooted stack depth _ node (omega arith) t a.roots;
+        said = said_as _ _
+            (ap (λ (r : List ℕ). rest_of r node (stack_of stack depth)) next
+            ∙ opened (drop (node + 1) nodes) node (get_or nodes node 0) stack depth t
+            ∙ (λ i. rest_of (drop (node + 1) nodes) (sym (add-one node) i) (sym (pushed stack depth node (get_or nodes node 0) (omega arith)) i)))
+            a.said;
+      }
 
-  pub ended : nodes ≤ done → Said (report_of counts) entry now done []
+  pub ended : length nodes ≤ done → (done ≡ length (report_from nodes 0 [])) × (now ≡ sets entry 0 (report_from nodes 0 []))
   ended h =
       let p = a.parts in
       let r = a.read in
       let z : depth ≡ 0 = omega arith in
-      let l = long in
-      said_as _ [] (rw (z, drop_of_length-le (nodes_in counts) {i = node} (omega arith))) a.said
+      said_all (said_as _ [] (rw (z, drop_of_length-le nodes {i = node} (omega arith))) a.said)

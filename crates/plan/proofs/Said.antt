@@ -1,11 +1,6 @@
 -- A loop that writes a list entry by entry into a slice, as far as there is room.
---
-use mathlib.Core.Path.{◌≡◌, refl, sym, ◌∙◌, ap}
-use mathlib.Core.List.{List, [], ◌∷◌, ◌++◌, append_assoc, append-nil}
-use Prim.Native.Nat.{ℕ, suc, ◌+◌}
-use native.Mathlib.Omega.{arith}
-use lib.ListN.{length, set, length-append}
-use lib.Seq.{sets}
+use Rattle.std.proofs.Common.{◌≡◌, refl, sym, ◌∙◌, ap, List, [], ◌∷◌, ◌++◌, append_assoc, append-nil, ℕ, suc, ◌+◌, arith, length, set, length-append}
+use Rattle.std.proofs.Math.Seq.{sets}
 
 sets_snoc : (l xs : List ℕ) (i x : ℕ) → sets l i (xs ++ x ∷ []) ≡ set (sets l i xs) (i + length xs) x
 sets_snoc l [] i x = let e : i + 0 ≡ i = omega arith in rw e

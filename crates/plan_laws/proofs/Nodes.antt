@@ -1,20 +1,13 @@
 -- A tree within the limits has nodes of the kinds that are lowered: what that says of their children, and of the leaf and cursor lists.
-use mathlib.Core.Path.{◌≡◌, refl, ◌∙◌, ap, subst}
-use mathlib.Core.Bool.{Bool, true, false, cond}
-use mathlib.Core.List.{List, [], ◌∷◌, ◌++◌}
-use Prim.Native.Nat.{ℕ, zero, suc, ◌+◌, ◌≤◌}
-use native.Mathlib.Omega.{arith}
-use borrow.Author.Tests.{le-ltb}
-use lib.Dec.{eqb, ltb}
-use lib.ListN.{length}
-use lib.Seq.{take_all}
+use Rattle.std.proofs.Common.{Option, None, Some, option_map, IsSomeAnd, ◌≡◌, refl, ◌∙◌, ap, subst, Bool, true, false, cond, List, [], ◌∷◌, ◌++◌, ℕ, zero}
+use Rattle.std.proofs.Common.{suc, ◌+◌, ◌≤◌, arith, le-ltb, eqb, ltb, length, take_all}
 use Rattle.tree_kinds.specs.declared.Family.{Family}
-use Rattle.tree_kinds.specs.declared.Family.TheVariants.{Never, Unknown}
-use Rattle.tree_kinds.specs.Kinds.{row_of, family_by}
+use Rattle.tree_kinds.specs.declared.Family.TheVariants.{Never}
+use Rattle.tree_kinds.specs.Kinds.{Entry, row_of, family_by}
 use Rattle.tree_kinds.proofs.Rows.{table_rule}
 use Rattle.tree.proofs.Lengths.{preorder_length, counts_length}
 use Rattle.tree.specs.Forest.{Forest, none, node, width, size, preorder, counts}
-use Rattle.tree.specs.Bytes.{Children, Lowered}
+use Rattle.tree.specs.Bytes.{Children, KindChildren, Lowered}
 use Rattle.plan.specs.Plan.{listed, places_from, either_kind, nodes_in, leaves_of, cursors_of, report_of}
 use Rattle.plan.proofs.Laws.{report_length, places_few}
 use Rattle.walk.specs.Kind.{Kind, kind_of, arity, is_leaf, has_cursor, bit}
@@ -26,14 +19,18 @@ pub record KindIs (k w : ℕ) : Type 0 where
   pub leaf : eqb k 1 ≡ is_leaf (kind_of k)
   pub cursor : either_kind 4 6 k ≡ has_cursor (kind_of k)
 
-past : (k w : ℕ) → 11 ≤ k → Children (family_by k) w → ⊥
+-- how many children a kind may have, by its family
+abbrev ByFamily : Option Family → ℕ → Type 0
+ByFamily family w = IsSomeAnd family (λ (f : Family). Children f w)
+
+past : (k w : ℕ) → 11 ≤ k → ByFamily (family_by k) w → ⊥
 past k w h c = go (ltb k 19) (rw (le-ltb k 1 (omega arith), le-ltb k 4 (omega arith), le-ltb k 8 (omega arith), le-ltb k 11 (omega arith)) at c)
   where
-    go : (b : Bool) → Children (cond b Never Unknown) w → ⊥
+    go : (b : Bool) → ByFamily (cond b (Some Never) None) w → ⊥
     go true c = c
     go false c = c
 
-by_kind : (k w : ℕ) → Children (family_by k) w → KindIs k w
+by_kind : (k w : ℕ) → ByFamily (family_by k) w → KindIs k w
 unfolding kind_of
 by_kind zero w c = absurd c
 by_kind (suc zero) w c = record { children = c; leaf = refl; cursor = refl }
@@ -46,10 +43,15 @@ by_kind (suc (suc (suc (suc (suc (suc (suc zero))))))) w c = record { children =
 by_kind (suc (suc (suc (suc (suc (suc (suc (suc zero)))))))) w c = record { children = c; leaf = refl; cursor = refl }
 by_kind (suc (suc (suc (suc (suc (suc (suc (suc (suc zero))))))))) w c = record { children = c; leaf = refl; cursor = refl }
 by_kind (suc (suc (suc (suc (suc (suc (suc (suc (suc (suc zero)))))))))) w c = record { children = c; leaf = refl; cursor = refl }
-by_kind (suc (suc (suc (suc (suc (suc (suc (suc (suc (suc (suc k))))))))))) w c = absurd (past (suc (suc (suc (suc (suc (suc (suc (suc (suc (suc (suc k))))))))))) w (omega arith) c)
+by_kind (suc (suc (suc (suc (suc (suc (suc (suc (suc (suc (suc k))))))))))) w c =
+    absurd (past (suc (suc (suc (suc (suc (suc (suc (suc (suc (suc (suc k))))))))))) w (omega arith) c)
 
-pub kind_is : (k w : ℕ) → Children (row_of k).family w → KindIs k w
-kind_is k w c = by_kind k w (subst (λ (a : Family). Children a w) (table_rule k).0 c)
+pub kind_is : (k w : ℕ) → KindChildren k w → KindIs k w
+kind_is k w c = by_kind k w (subst (λ (f : Option Family). ByFamily f w) (table_rule k).0 (of_row (row_of k) c))
+  where
+    of_row : (row : Option Entry) → IsSomeAnd row (λ (r : Entry). Children r.family w) → ByFamily (option_map (λ (r : Entry). r.family) row) w
+    of_row None c = c
+    of_row (Some row) c = c
 
 pub shaped : (f : Forest ℕ) → Lowered f → Shaped kind_of f
 shaped none l = tt
@@ -75,7 +77,8 @@ listed_length true n xs = omega arith
 listed_length false n xs = omega arith
 
 module _ (test : ℕ → Bool) (has : Kind → Bool) where
-  places_append : (n : ℕ) (xs ys : List ℕ) → length (places_from test n (xs ++ ys)) ≡ length (places_from test n xs) + length (places_from test (n + length xs) ys)
+  places_append : (n : ℕ) (xs ys : List ℕ)
+      → length (places_from test n (xs ++ ys)) ≡ length (places_from test n xs) + length (places_from test (n + length xs) ys)
   places_append n [] ys = let e : n ≡ n + 0 = omega arith in ap (λ (k : ℕ). length (places_from test k ys)) e ∙ omega arith
   places_append n (x ∷ xs) ys =
       let e : suc n + length xs ≡ n + suc (length xs) = omega arith in

@@ -1,9 +1,7 @@
 -- Some refusals' lines, by computation: rows of one table under one statement.
---
-use mathlib.Core.Path.{◌≡◌, refl}
-use mathlib.Core.List.{List, [], ◌∷◌}
+use Rattle.std.proofs.Common.{codes, ◌≡◌, refl, List, [], ◌∷◌}
 use Prim.Native.String.{String}
-use Rattle.tree_kinds.specs.Kinds.{ascii, rows, row_of}
+use Rattle.tree_kinds.specs.Kinds.{rows, row_of}
 use Rattle.tree_record.specs.declared.refusal.Cause.TheVariants.{Truncated, Unsupported, TooManyNodes, ShortRoom}
 use Rattle.tree_record.specs.declared.refusal.Refusal.{Refusal}
 use Rattle.text.specs.Text.{decimal_in, decimal}
@@ -24,7 +22,7 @@ cards =
 
 abbrev pub Hold : List Card → Type 0
 Hold [] = Unit {0}
-Hold (card ∷ more) = (line_of card.refusal ≡ ascii card.line) × Hold more
+Hold (card ∷ more) = (line_of card.refusal ≡ codes card.line) × Hold more
 
 pub cards_hold : Hold cards
 unfolding cards line_of heading decimal decimal_in row_of rows

@@ -1,2 +1,1 @@
 pub mod Cards
-pub mod Sentences

@@ -1,109 +1,80 @@
 // A case: a tree's bytes, and what is due for them.
-use crate::case_lists::lists_at;
-use crate::lines::{Seen, letter, line_at, line_end, next_line, read_hex, short, values_are};
+ghost use Rattle.std.specs.Prelude.{◌≤◌, length};
+
+use crate::case_lists::lists;
+use crate::lines::{Line, Mismatch, Reader, short};
 use crate::room;
-use crate::ticks::ticks_at;
-use compile::Compiled;
-use tree::Flattened;
+use crate::ticks::ticks;
 use tree_record::Refusal;
-use wire::Counts;
+use wire::{Circuit, Pools, Storage};
 
-// The case that begins at a position.
-pub(crate) fn case_at(text: &[u8], from: usize) -> Seen {
-    if letter(line_at(text, from)) != b'b' {
-        return Seen::wrong(from);
+// The case that begins with a line.
+pub(crate) fn case<'a>(first: Line<'a>, lines: &mut Reader<'a>) -> Result<(), Mismatch<'a>>
+    ensures { length lines.new.rest.now ≤ length lines.old.rest.now }
+{
+    first.check(first.begins_with(b'b'))?;
+    let mut bytes = [0; 4096];
+    let mut size = first.read_bytes(&mut bytes, 0);
+    while let Some(more) = lines.line_if(b'a') {
+        size = more.read_bytes(&mut bytes, size);
     }
-    let mut bytes = [0u8; 4096];
-    let first = read_hex(line_at(text, from), &mut bytes, 0);
-    let read = more_bytes(text, next_line(text, from), &mut bytes, first);
-    let size = read.size;
-    if bytes.len() < size {
-        return Seen::wrong(from);
-    }
-    answer_at(text, read.next, &bytes[0..size])
-}
-
-// How many bytes a tree has, and where the lines go on.
-#[derive(Clone, Copy)]
-pub(crate) struct Bytes {
-    pub(crate) size: usize,
-    pub(crate) next: usize,
-}
-
-// The lines that go on with the tree's bytes, of which there are so many.
-fn more_bytes(text: &[u8], from: usize, bytes: &mut [u8], first: usize) -> Bytes {
-    let mut at = from;
-    let mut size = first;
-    while at < text.len() {
-        if text[at] != b'a' {
-            return Bytes {
-                size: size,
-                next: at,
-            };
-        }
-        size = read_hex(line_at(text, at), bytes, size);
-        at = line_end(text, at) + 1;
-    }
-    Bytes {
-        size: size,
-        next: at,
-    }
+    let Some(tree) = bytes.get(..size) else {
+        return Err(Mismatch::Line(first));
+    };
+    answer(lines, tree)
 }
 
 // What is due for these bytes, against what compiling them gives.
-fn answer_at(text: &[u8], from: usize, bytes: &[u8]) -> Seen {
+fn answer<'a>(lines: &mut Reader<'a>, tree: &[u8]) -> Result<(), Mismatch<'a>>
+    ensures { length lines.new.rest.now ≤ length lines.old.rest.now }
+{
     let mut nums = room::nums();
     let mut biases = room::biases();
     let mut wires = room::wires();
     let mut coefs = room::coefs();
-    let answer = room::compile(bytes, &mut nums, &mut biases, &mut wires, &mut coefs);
-    match answer {
-        Compiled::Refused(refusal) => refusal_at(text, from, bytes, refusal),
-        Compiled::Accepted(counts) => {
-            circuit_at(text, from, bytes, counts, &nums, &biases, &wires, &coefs)
+    let mut storage = Storage {
+        nums: &mut nums,
+        biases: &mut biases,
+        wires: &mut wires,
+        coefs: &mut coefs,
+    };
+    match room::compile(tree, &mut storage) {
+        Err(refusal) => refused(lines.line()?, tree, refusal),
+        Ok(counts) => {
+            let pools = Pools {
+                wires: &wires,
+                coefs: &coefs,
+            };
+            let circuit = Circuit {
+                counts,
+                nums: &nums,
+                biases: &biases,
+                pools,
+            };
+            lists(lines, tree, &circuit)?;
+            ticks(lines, &circuit)
         }
     }
 }
 
-// The lists and counts of a tree, then its ticks.
-fn circuit_at(
-    text: &[u8],
-    from: usize,
-    bytes: &[u8],
-    counts: Counts,
-    nums: &[u32],
-    biases: &[f32],
-    wires: &[u32],
-    coefs: &[f32],
-) -> Seen {
-    let listed = lists_at(text, from, bytes, counts, nums);
-    if !listed.so {
-        return listed;
-    }
-    ticks_at(text, listed.at, counts, nums, biases, wires, coefs)
-}
-
 // A refusal: compile's, and flatten's too.
-fn refusal_at(text: &[u8], from: usize, bytes: &[u8], refusal: Refusal) -> Seen {
-    let line = line_at(text, from);
-    if !refusal_agrees(line, refusal) {
-        return Seen::wrong(from);
+fn refused<'a>(line: Line<'a>, tree: &[u8], refusal: Refusal) -> Result<(), Mismatch<'a>> {
+    refusal_agrees(line, refusal)?;
+    let mut kinds = [0; 128];
+    let mut children = [0; 128];
+    match tree::flatten(tree, &mut kinds, &mut children) {
+        Err(found) => refusal_agrees(line, found),
+        Ok(_) => Err(Mismatch::Line(line)),
     }
-    let mut kinds = [0u8; 128];
-    let mut children = [0u16; 128];
-    let Flattened::Refused(found) = tree::flatten(bytes, &mut kinds, &mut children) else {
-        return Seen::wrong(from);
-    };
-    if !refusal_agrees(line, found) {
-        return Seen::wrong(from);
-    }
-    Seen::right(next_line(text, from))
 }
 
 // A refusal's number, place and kind.
-fn refusal_agrees(line: &[u8], refusal: Refusal) -> bool {
+fn refusal_agrees<'a>(line: Line<'a>, refusal: Refusal) -> Result<(), Mismatch<'a>> {
     let cause = refusal.cause;
-    let place = refusal.place;
-    let values = [cause.number() as u32, short(place), cause.kind() as u32];
-    values_are(line, b'x', &values, 3)
+    let values = [
+        u32::from(cause.number()),
+        short(refusal.place),
+        u32::from(cause.kind()),
+    ];
+    line.holds(b'x', &values, values.len())
 }

@@ -1,31 +1,23 @@
 // The room that the text lies in, and that a case is compiled and ticked in, of docs/STORAGE.md's lengths.
 ghost use Rattle.std.specs.Prelude.{◌≡◌, length};
 
-use compile::{Compiled, Room};
+use compile::WorkRoom;
+use tree_record::Refusal;
+use wire::{Counts, Storage};
 
 // Compiles a tree into the circuit's storage; the work room is lent here.
-pub(crate) fn compile(
-    bytes: &[u8],
-    nums: &mut [u32],
-    biases: &mut [f32],
-    wires: &mut [u32],
-    coefs: &mut [f32],
-) -> Compiled {
-    let mut work_nums = work_nums();
-    let mut work_biases = work_biases();
-    let mut work_wires = work_wires();
-    let mut work_coefs = work_coefs();
-    lower::compile(
-        bytes,
-        nums,
-        biases,
-        wires,
-        coefs,
-        &mut work_nums,
-        &mut work_biases,
-        &mut work_wires,
-        &mut work_coefs,
-    )
+pub(crate) fn compile(tree: &[u8], storage: &mut Storage) -> Result<Counts, Refusal> {
+    let mut nums = work_nums();
+    let mut biases = work_biases();
+    let mut wires = work_wires();
+    let mut coefs = work_coefs();
+    let mut work = WorkRoom {
+        nums: &mut nums,
+        biases: &mut biases,
+        wires: &mut wires,
+        coefs: &mut coefs,
+    };
+    lower::compile(tree, storage, &mut work)
 }
 
 // A circuit's storage holds any tree's ops, 2,163, and 65,536 terms: the stored trees have fewer than 45,000, and slots for any tree's terms
@@ -51,20 +43,20 @@ pub(crate) fn values() -> [f32; 2803] {
     [0.0; 2803]
 }
 
-fn work_nums() -> [usize; Room::NUMS] {
-    [0; Room::NUMS]
+fn work_nums() -> [usize; WorkRoom::NUMS] {
+    [0; WorkRoom::NUMS]
 }
 
-fn work_biases() -> [f32; Room::BIASES] {
-    [0.0; Room::BIASES]
+fn work_biases() -> [f32; WorkRoom::BIASES] {
+    [0.0; WorkRoom::BIASES]
 }
 
-fn work_wires() -> [u32; Room::TERMS] {
-    [0; Room::TERMS]
+fn work_wires() -> [u32; WorkRoom::TERMS] {
+    [0; WorkRoom::TERMS]
 }
 
-fn work_coefs() -> [f32; Room::TERMS] {
-    [0.0; Room::TERMS]
+fn work_coefs() -> [f32; WorkRoom::TERMS] {
+    [0.0; WorkRoom::TERMS]
 }
 
 // The whole text.

@@ -2,8 +2,7 @@
 use Rattle.std.specs.Prelude.{false}
 use Rattle.wire.specs.declared.Form.{Form}
 use Rattle.builder.specs.Bits.{bit_form}
-use Rattle.builder_table.specs.declared.Builder.{Builder}
-use Rattle.builder_table.specs.Work.{Mem, Ended}
+use Rattle.builder_table.specs.Work.{Standing, Mem, Ended}
 use Rattle.builder_table.specs.Steps.{plus_in}
 use Rattle.status.specs.declared.Status.{Status}
 use Rattle.status.specs.declared.StatusBits.{StatusBits}
@@ -26,9 +25,10 @@ abbrev pub inverted_bits : StatusBits → StatusBits
 inverted_bits b = record { success = b.failure; failure = b.success; running = b.running }
 
 -- what `forced` leaves: the two finished bits as one
-unfoldable pub finished_in : Mem → Builder → StatusBits → Ended
+unfoldable pub finished_in : Mem → Standing → StatusBits → Ended
 finished_in m b x = plus_in m b x.success.0 x.failure.0
 
 -- "Force turns both into its own; running passes"
 unfoldable pub forced_bits : StatusBits → Status → Form → StatusBits
-forced_bits x own finished = with_bit (record { success = record { 0 = bit_form false }; failure = record { 0 = bit_form false }; running = x.running }) own finished
+forced_bits x own finished =
+    with_bit (record { success = record { 0 = bit_form false }; failure = record { 0 = bit_form false }; running = x.running }) own finished

@@ -1,12 +1,12 @@
 // status.rs: the three-valued status, as bits. All three 0 is a node that was not ticked.
 #![tactic(auto)]
 
-ghost use Rattle.std.specs.Prelude.{◌≡◌, List, true, ℕ, Float};
-ghost use Rattle.builder_table.specs.Work.{mem, ended};
+ghost use Rattle.std.specs.Prelude.{◌≡◌, true};
+ghost use Rattle.builder_table.specs.Loans.{memory, standing, Makes};
 ghost use Rattle.status.specs.Bits.{unticked_bits, with_bit, inverted_bits, finished_in, forced_bits};
 ghost use Rattle.builder.specs.Bits.{bit_form};
 
-use builder::{Bit, Decided};
+use builder::Bit;
 use builder_table::Builder;
 
 #[derive(Clone, Copy)]
@@ -40,33 +40,26 @@ impl StatusBits {
     pub fn constant(status: Status) -> Self
         ensures { result ≡ with_bit unticked_bits status (bit_form true) }
     {
-        let yes = Bit::constant(true);
-        let none = Self::unticked();
-        none.with(status, yes)
+        Self::unticked().with(status, Bit::constant(true))
     }
 
     // The same bits but for that of one status.
+    #[tactic(auto, unfolding(crate::specs::Bits::with_bit))]
     pub fn with(self, status: Status, bit: Bit) -> Self
         ensures { result ≡ with_bit self status bit.0 }
     {
-        let s = self.success;
-        let f = self.failure;
-        let r = self.running;
         match status {
             Status::Success => Self {
                 success: bit,
-                failure: f,
-                running: r,
+                ..self
             },
             Status::Failure => Self {
-                success: s,
                 failure: bit,
-                running: r,
+                ..self
             },
             Status::Running => Self {
-                success: s,
-                failure: f,
                 running: bit,
+                ..self
             },
         }
     }
@@ -75,42 +68,30 @@ impl StatusBits {
     pub fn inverted(self) -> Self
         ensures { result ≡ inverted_bits self }
     {
-        let s = self.success;
-        let f = self.failure;
-        let r = self.running;
         Self {
-            success: f,
-            failure: s,
-            running: r,
+            success: self.failure,
+            failure: self.success,
+            running: self.running,
         }
     }
 
     // Running as it is, and all that is finished as one status, whose bit `finished` is. No op.
+    #[tactic(auto, unfolding(crate::specs::Bits::forced_bits))]
     pub fn forced(self, own: Status, finished: Bit) -> Self
         ensures { result ≡ forced_bits self own finished.0 }
     {
-        let no = Bit::constant(false);
-        let r = self.running;
         let rest = Self {
-            success: no,
-            failure: no,
-            running: r,
+            running: self.running,
+            ..Self::unticked()
         };
         rest.with(own, finished)
     }
 }
 
 // Whether the node finished: the sum of success and failure. No op.
-pub fn finished(
-    wires: &mut [u32],
-    coefs: &mut [f32],
-    builder: Builder,
-    status: StatusBits,
-) -> Decided
-    ensures { (nums : List ℕ) (biases : List Float) → ended wires.new coefs.new nums biases result.builder result.bit.0
-        ≡ finished_in (mem wires.old coefs.old nums biases) builder status }
+#[tactic(auto, unfolding(crate::specs::Bits::finished_in))]
+pub fn finished(b: &mut Builder, status: StatusBits) -> Bit
+    ensures { Makes b.old b.new result.0 (finished_in (memory b.old) (standing b.old) status) }
 {
-    let s = status.success;
-    let f = status.failure;
-    builder::or_disjoint(wires, coefs, builder, s, f)
+    builder::or_disjoint(b, status.success, status.failure)
 }

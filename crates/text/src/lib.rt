@@ -30,10 +30,7 @@ pub fn append(line: &mut [u8], at: usize, part: &[u8]) -> usize
     requires { at + length part.now ≤ length line.old }
     ensures { Appended line.old at part.now line.new result }
 {
-    let mut i: usize = 0;
-    while i < part.len() {
-        line[at + i] = part[i];
-        i += 1;
-    }
-    at + i
+    let end = at + part.len();
+    line[at..end].copy_from_slice(part);
+    end
 }

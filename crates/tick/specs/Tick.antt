@@ -1,10 +1,9 @@
 -- A tick: its answer, and what it leaves in everything lent, for every circuit, state and row. Definitions only.
-use Rattle.std.specs.Prelude.{ℕ, ◌+◌, List, Bool, ◌&&◌, length, eqb, leb}
+use Rattle.std.specs.Prelude.{ℕ, ◌+◌, List, Ok, Bool, ◌&&◌, length, eqb, leb}
 use Rattle.wire.specs.declared.Counts.{Counts}
 use Rattle.tick_check.specs.Check.{Stored, circuit_ok}
-use Rattle.tick_lane.specs.declared.Ticked.{Ticked}
-use Rattle.tick_lane.specs.declared.Ticked.TheVariants as is
-use Rattle.tick_lane.specs.Lane.{unless, Lent, Outcome, after, lane_of}
+use Rattle.tick_lane.specs.declared.TickError.TheVariants as is
+use Rattle.tick_lane.specs.Lane.{Ticked, unless, Lent, Outcome, after, lane_of}
 
 -- not "value table shorter than cells and ops together, or status, halt or edge output shorter than needed (N, N, L)"
 abbrev pub room_for : Counts → ℕ → ℕ → ℕ → ℕ → Bool
@@ -19,7 +18,7 @@ shapes_of s row flags cursors values statuses halts edges =
     (unless (eqb row n.leaves) (is.LeafCount row)
     (unless (eqb flags n.nodes) (is.StateShape flags)
     (unless (eqb cursors n.cursors) (is.CursorCount cursors)
-    (unless (room_for n values statuses halts edges) is.ShortRoom is.Accepted))))
+    (unless (room_for n values statuses halts edges) is.ShortRoom (Ok tt)))))
 
 abbrev pub gate_of : Stored → List ℕ → Lent → Ticked
 gate_of s row l =

@@ -2,92 +2,49 @@
 #![tactic(auto)]
 
 ghost use Rattle.std.specs.Prelude.{◌≡◌};
-ghost use Rattle.tick_check.specs.Check.{stored};
-ghost use Rattle.tick_lane.specs.Lane.{lent, outcome};
-ghost use Rattle.tick.specs.Tick.{shapes_of, tick_of};
+ghost use Rattle.tick_check.specs.Check.{stored_in};
+ghost use Rattle.tick_lane.specs.Lane.{outcome};
+ghost use Rattle.tick_lane.specs.Loans.{lent_in, LentAs};
+ghost use Rattle.tick.specs.Tick.{gate_of, tick_of};
 
-use tick_lane::Ticked;
-use wire::Counts;
+use tick_lane::{Lane, TickError};
+use wire::Circuit;
 
 // 17, then 11 to 14, of the lengths of what is lent.
-fn gate(
-    counts: Counts,
-    nums: &[u32],
-    biases: &[f32],
-    wires: &[u32],
-    coefs: &[f32],
-    row: usize,
-    flags: usize,
-    cursors: usize,
-    values: usize,
-    statuses: usize,
-    halts: usize,
-    edges: usize,
-) -> Ticked
-    ensures { result ≡ shapes_of (stored counts nums.now biases.now wires.now coefs.now) row flags cursors values statuses halts edges }
+#[tactic(auto, using(tick_check::proofs::Checked::checked), unfolding(crate::specs::Tick::shapes_of))]
+fn gate(circuit: &Circuit, row: &[u8], lane: &Lane) -> Result<(), TickError>
+    ensures { result ≡ gate_of (stored_in circuit.now) row.now (lent_in lane.now) }
 {
-    let good = tick_check::is_circuit(counts, nums, biases, wires, coefs);
-    if !good {
-        return Ticked::BadCircuit;
+    if !tick_check::is_circuit(circuit) {
+        return Err(TickError::BadCircuit);
     }
-    let nodes = counts.nodes;
-    let cells = counts.cursors;
-    let leaves = counts.leaves;
-    let table = counts.cells + counts.ops;
-    if row != leaves {
-        return Ticked::LeafCount(row);
+    let counts = circuit.counts;
+    if row.len() != counts.leaves {
+        return Err(TickError::LeafCount(row.len()));
     }
-    if flags != nodes {
-        return Ticked::StateShape(flags);
+    if lane.flags.len() != counts.nodes {
+        return Err(TickError::StateShape(lane.flags.len()));
     }
-    if cursors != cells {
-        return Ticked::CursorCount(cursors);
+    if lane.cursors.len() != counts.cursors {
+        return Err(TickError::CursorCount(lane.cursors.len()));
     }
-    let room = (table <= values) & ((nodes <= statuses) & ((nodes <= halts) & (leaves <= edges)));
+    let room = counts.cells + counts.ops <= lane.values.len()
+        && counts.nodes <= lane.statuses.len()
+        && counts.nodes <= lane.halts.len()
+        && counts.leaves <= lane.edges.len();
     if !room {
-        return Ticked::ShortRoom;
+        return Err(TickError::ShortRoom);
     }
-    Ticked::Accepted
+    Ok(())
 }
 
 // A tick: statuses, halts and edges written, flags and cursors advanced in place; or a refusal, which writes nothing,
 // but that 18 leaves the value table computed.
-pub fn tick(
-    counts: Counts,
-    nums: &[u32],
-    biases: &[f32],
-    wires: &[u32],
-    coefs: &[f32],
-    row: &[u8],
-    flags: &mut [u8],
-    cursors: &mut [u32],
-    values: &mut [f32],
-    statuses: &mut [u8],
-    halts: &mut [u8],
-    edges: &mut [u8],
-) -> Ticked
-    ensures { outcome result (lent flags.new cursors.new values.new statuses.new halts.new edges.new)
-        ≡ tick_of (stored counts nums.now biases.now wires.now coefs.now) row.now
-        (lent flags.old cursors.old values.old statuses.old halts.old edges.old) }
+#[tactic(auto, using(crate::proofs::Passed::ready, crate::proofs::Passed::row_fits), unfolding(crate::specs::Tick::tick_of))]
+pub fn tick(circuit: &Circuit, row: &[u8], lane: &mut Lane) -> Result<(), TickError>
+    ensures lent { LentAs lane.old lane.new }
+    ensures outcome { outcome result (lent_in lane.new) ≡ tick_of (stored_in circuit.now) row.now (lent_in lane.old) }
 {
-    let g = gate(
-        counts,
-        nums,
-        biases,
-        wires,
-        coefs,
-        row.len(),
-        flags.len(),
-        cursors.len(),
-        values.len(),
-        statuses.len(),
-        halts.len(),
-        edges.len(),
-    );
-    let Ticked::Accepted = g else {
-        return g;
-    };
-    tick_lane::lane(
-        counts, nums, biases, wires, coefs, row, flags, cursors, values, statuses, halts, edges,
-    )
+    gate(circuit, row, lane)?;
+    tick_lane::lane(circuit, row, lane)
 }

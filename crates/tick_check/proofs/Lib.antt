@@ -1,6 +1,7 @@
 pub mod All
-pub mod Checked
-pub mod Count
-pub mod Passes
 pub mod Rising
+pub mod Count
+pub mod Part
 pub mod Whole
+pub mod Passes
+pub mod Checked

@@ -7,6 +7,7 @@ use Rattle.exact.specs.Tests.{small}
 use Rattle.lists.specs.All.{all}
 use Rattle.wire.specs.declared.Form.{Form}
 use Rattle.wire.specs.declared.Counts.{Counts}
+use Rattle.wire.specs.declared.Circuit.{Circuit}
 use Rattle.wire.specs.Storage.{leaves_from, cursors_from, report_from, kind_at, left_form, gate_form, output_form, output_count, storage_holds}
 
 -- a circuit as it is lent: the counts and the four slices, which may hold anything
@@ -19,6 +20,9 @@ pub record Stored : Type 0 where
 
 abbrev pub stored : Counts → List ℕ → List Float → List ℕ → List Float → Stored
 stored n nums biases wires coefs = record { counts = n; nums = nums; biases = biases; wires = wires; coefs = coefs }
+
+abbrev pub stored_in : Circuit → Stored
+stored_in c = stored c.counts c.nums.now c.biases.now c.pools.wires.now c.pools.coefs.now
 
 -- ---- counts
 

@@ -1,12 +1,15 @@
 -- The check form by form, and what each of its passes decides. That both are Check's list is proved in proofs/Whole.antt and Passes.antt.
 -- Inner: the shape of the code; nobody need believe it.
-use Rattle.std.specs.Prelude.{ℕ, ◌+◌, ◌*◌, List, Bool, ◌&&◌, ◌||◌, cond, get_or, ltb, leb, eqb, Float}
+use Rattle.std.specs.Prelude.{ℕ, ◌+◌, ◌*◌, List, Bool, ◌&&◌, ◌||◌, length, get_or, leb, eqb, Float}
 use Rattle.std.specs.Float.{nan}
 use Rattle.exact.specs.Tests.{small, coefficient}
 use Rattle.lists.specs.All.{all}
 use Rattle.wire.specs.declared.Form.{Form}
 use Rattle.wire.specs.declared.Counts.{Counts}
+use Rattle.wire.specs.declared.Circuit.{Circuit}
+use Rattle.wire.specs.Held.{Held}
 use Rattle.wire.specs.Storage.{leaves_from, cursors_from, report_from, outputs_from, ops_from, op_biases_from, affine_kind, reglu_kind, output_count}
+use Rattle.tick_check.specs.Checked.{Sizes}
 use Rattle.tick_check.specs.Check.{Stored, some_node, sizes_fit, cells_fit, kind_known, inside, reads_below, pairs, wires_rise, bias_small, rises_below, each_once, op_forms, out_form}
 
 abbrev pub sizes_ok : Counts → Bool
@@ -53,12 +56,17 @@ floats_ok n biases coefs = coefs_ok coefs n.terms && (biases_ok biases 0 (output
 -- what is asked of the form whose range stands at an index of nums, but for its bias
 unfoldable pub range_ok : List ℕ → ℕ → ℕ → List ℕ → ℕ → Bool
 unfolding rises_below
-range_ok wires terms limit nums at = leb (get_or nums at 0 + get_or nums (at + 1) 0) terms && rises_below wires (get_or nums at 0) (get_or nums (at + 1) 0) limit
+range_ok wires terms limit nums at =
+    let first = get_or nums at 0 in
+    let len = get_or nums (at + 1) 0 in
+    leb (first + len) terms && rises_below wires first len limit
 
 -- of the op that stands there
 unfoldable pub op_ranges : List ℕ → ℕ → ℕ → List ℕ → ℕ → Bool
 unfolding range_ok
-op_ranges wires terms own nums at = (eqb (get_or nums at 0) affine_kind || eqb (get_or nums at 0) reglu_kind) && (range_ok wires terms own nums (at + 1) && range_ok wires terms own nums (at + 3))
+op_ranges wires terms own nums at =
+    let kind = get_or nums at 0 in
+    (eqb kind affine_kind || eqb kind reglu_kind) && (range_ok wires terms own nums (at + 1) && range_ok wires terms own nums (at + 3))
 
 unfoldable pub ops_range : Counts → List ℕ → List ℕ → Bool
 unfolding op_ranges all
@@ -68,6 +76,9 @@ unfoldable pub outs_range : Counts → List ℕ → List ℕ → Bool
 unfolding range_ok all
 outs_range n nums wires = all (λ k. range_ok wires n.terms (n.cells + n.ops) nums (outputs_from + 2 * k)) (output_count n)
 
--- where x is counted: at x, if it is below n
-abbrev pub slot_of : ℕ → ℕ → ℕ
-slot_of x n = cond (ltb x n) x 128
+-- ---- what the passes ask
+
+-- the counts are within the limits, and lent storage holds them
+pub record Sized (c : Circuit) : Type 0 where
+  pub sizes : Sizes c.counts
+  pub held : Held c.counts (length c.nums.now) (length c.biases.now) (length c.pools.wires.now) (length c.pools.coefs.now)

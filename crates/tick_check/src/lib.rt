@@ -1,257 +1,190 @@
 // The check for 17: whether lent storage, which may hold anything, is a circuit.
 #![tactic(auto)]
 
-ghost use Rattle.std.specs.Prelude.{◌≡◌, ◌+◌, ◌*◌, ◌≤◌, ◌<◌, length};
-ghost use Rattle.wire.specs.Storage.{ops_from, op_biases_from, output_count};
-ghost use Rattle.wire.specs.Held.{Held};
-ghost use Rattle.tick_check.specs.Check.{stored, pairs, rises_below, each_once, circuit_ok};
-ghost use Rattle.tick_check.specs.Parts.{sizes_ok, coefs_ok, biases_ok, floats_ok, range_ok, op_ranges, ops_range, outs_range, lists_ok, contents_ok, slot_of};
+ghost use Rattle.std.specs.Prelude.{◌≡◌, ◌+◌, ◌-◌, ◌*◌, ◌≤◌, ◌<◌, length};
+ghost use Rattle.wire.specs.Storage.{ops_from, output_count};
+ghost use Rattle.tick_check.specs.Check.{stored_in, pairs, rises_below, each_once, circuit_ok};
+ghost use Rattle.tick_check.specs.Parts.{Sized, sizes_ok, coefs_ok, biases_ok, floats_ok, range_ok, op_ranges, ops_range, outs_range, lists_ok, contents_ok};
 
-use wire::{Biases, Counts, Nums, Op};
+use wire::{Biases, Circuit, Counts, Nums, Op};
 
-// Whether each of n entries is below the one after it. No way leads out of the loop, so that it is done many at a time.
-fn pairs_rise(list: &[u32], from: usize, n: usize) -> bool
-    requires { from + n < length list.now }
-    ensures { result ≡ pairs list.now from n }
+// Whether each entry but the last is below the one after it. No way leads out of the loop, so that it is done many at a time.
+#[tactic(auto, unfolding(crate::specs::Check::pairs, lists::specs::All::all))]
+fn pairs_rise(list: &[u32]) -> bool
+    requires { 0 < length list.now }
+    ensures { result ≡ pairs list.now 0 (length list.now - 1) }
 {
     let mut ok = true;
-    let mut i = 0usize;
-    while i < n {
-        let here = list[from + i];
-        let next = list[from + i + 1];
-        ok = ok & (here < next);
-        i += 1;
+    for i in 1..list.len() {
+        ok &= list[i - 1] < list[i];
     }
     ok
 }
 
-// Whether n entries rise strictly, below a limit. Since they rise, the last alone is held against it; and most forms have one term or none.
-fn rises_below(list: &[u32], from: usize, n: usize, limit: usize) -> bool
-    requires { from + n ≤ length list.now }
-    ensures { result ≡ rises_below list.now from n limit }
+// Whether entries rise strictly, below a limit. Since they rise, the last alone is held against it; and most forms have one term or none.
+#[tactic(auto, using(crate::proofs::Rising::rises_by_last, crate::proofs::Rising::rises_empty))]
+fn rises_below(list: &[u32], limit: usize) -> bool
+    ensures { result ≡ rises_below list.now 0 (length list.now) limit }
 {
-    if n == 0 {
-        return true;
+    match list.last() {
+        Some(last) => (*last as usize) < limit && pairs_rise(list),
+        None => true,
     }
-    let last = wire_pool::wide(list[from + n - 1]);
-    if limit <= last {
-        return false;
-    }
-    if n == 1 {
-        return true;
-    }
-    pairs_rise(list, from, n - 1)
-}
-
-// Where a range ends.
-fn past(first: u32, len: u32) -> usize
-    ensures { result ≡ first + len }
-{
-    (first as usize) + (len as usize)
 }
 
 // Whether the range at an index of nums is inside the terms in use, and its wires rise below a limit.
-fn range_ok(nums: &[u32], at: usize, wires: &[u32], terms: usize, limit: usize) -> bool
-    requires { (at + 1 < length nums.now) × (terms ≤ length wires.now) }
-    ensures { result ≡ range_ok wires.now terms limit nums.now at }
+#[tactic(auto, using(crate::proofs::Part::parts), unfolding(crate::specs::Parts::range_ok))]
+fn range_ok(circuit: &Circuit, at: usize, limit: usize) -> bool
+    requires { (at + 1 < length circuit.now.nums.now) × (circuit.now.counts.terms ≤ length circuit.now.pools.wires.now) }
+    ensures { result ≡ range_ok circuit.now.pools.wires.now circuit.now.counts.terms limit circuit.now.nums.now at }
 {
-    let first = nums[at];
-    let len = nums[at + 1];
-    let end = past(first, len);
-    if terms < end {
-        return false;
-    }
-    rises_below(wires, first as usize, len as usize, limit)
+    let first = circuit.nums[at] as usize;
+    let end = first + circuit.nums[at + 1] as usize;
+    end <= circuit.counts.terms && rises_below(&circuit.pools.wires[first..end], limit)
 }
 
-fn op_ok(nums: &[u32], at: usize, wires: &[u32], terms: usize, own: usize) -> bool
-    requires { (at + 4 < length nums.now) × (terms ≤ length wires.now) }
-    ensures { result ≡ op_ranges wires.now terms own nums.now at }
+// Whether op i is of one of the two kinds, and reads only what stands before it.
+#[tactic(auto, unfolding(crate::specs::Parts::op_ranges))]
+fn op_ok(circuit: &Circuit, i: usize) -> bool
+    requires { Sized circuit.now × (i < circuit.now.counts.ops) }
+    ensures { result ≡ op_ranges circuit.now.pools.wires.now circuit.now.counts.terms (circuit.now.counts.cells + i) circuit.now.nums.now (ops_from + 5 * i) }
 {
-    let kind = nums[at];
-    let known = (kind == Op::AFFINE) | (kind == Op::REGLU);
-    if !known {
-        return false;
-    }
-    let left = range_ok(nums, at + 1, wires, terms, own);
-    if !left {
-        return false;
-    }
-    range_ok(nums, at + 3, wires, terms, own)
+    let at = Nums::OPS + Nums::PER_OP * i;
+    let own = circuit.counts.cells + i;
+    let kind = circuit.nums[at];
+    (kind == Op::AFFINE || kind == Op::REGLU)
+        && range_ok(circuit, at + 1, own)
+        && range_ok(circuit, at + 3, own)
 }
 
 // The kinds and ranges of all ops, up to the first that is not one.
-fn ops_ok(counts: Counts, nums: &[u32], wires: &[u32]) -> bool
-    requires { (ops_from + 5 * counts.ops ≤ length nums.now) × (counts.terms ≤ length wires.now) × (counts.cells ≤ 640) }
-    ensures { result ≡ ops_range counts nums.now wires.now }
+#[tactic(auto, unfolding(crate::specs::Parts::ops_range, lists::specs::All::all))]
+fn ops_ok(circuit: &Circuit) -> bool
+    requires { Sized circuit.now }
+    ensures { result ≡ ops_range circuit.now.counts circuit.now.nums.now circuit.now.pools.wires.now }
 {
-    let terms = counts.terms;
-    let cells = counts.cells;
-    let ops = counts.ops;
-    let mut i = 0usize;
-    while i < ops {
-        let fine = op_ok(nums, Nums::OPS + 5 * i, wires, terms, cells + i);
-        if !fine {
+    for i in 0..circuit.counts.ops {
+        if !op_ok(circuit, i) {
             return false;
         }
-        i += 1;
     }
     true
 }
 
 // The ranges of all output forms, likewise.
-fn outs_ok(counts: Counts, nums: &[u32], wires: &[u32]) -> bool
-    requires { (ops_from + 5 * counts.ops ≤ length nums.now) × (counts.terms ≤ length wires.now) × (counts.cells ≤ 640) × (output_count counts ≤ 896) }
-    ensures { result ≡ outs_range counts nums.now wires.now }
+#[tactic(auto, unfolding(crate::specs::Parts::outs_range, lists::specs::All::all))]
+fn outs_ok(circuit: &Circuit) -> bool
+    requires { Sized circuit.now }
+    ensures { result ≡ outs_range circuit.now.counts circuit.now.nums.now circuit.now.pools.wires.now }
 {
-    let terms = counts.terms;
-    let end = counts.cells + counts.ops;
-    let outs = 6 * counts.nodes + counts.cursors;
-    let mut k = 0usize;
-    while k < outs {
-        let fine = range_ok(nums, Nums::OUTPUTS + 2 * k, wires, terms, end);
-        if !fine {
+    let table = circuit.counts.cells + circuit.counts.ops;
+    for k in 0..outputs(circuit.counts) {
+        if !range_ok(circuit, Nums::OUTPUTS + Nums::PER_FORM * k, table) {
             return false;
         }
-        k += 1;
     }
     true
 }
 
-// Every coefficient of the terms in use, in one pass with no way out of it.
-fn coefs_ok(coefs: &[f32], terms: usize) -> bool
-    requires { terms ≤ length coefs.now }
-    ensures { result ≡ coefs_ok coefs.now terms }
+// Whether every coefficient may be one, in one pass with no way out of it.
+#[tactic(auto, unfolding(crate::specs::Parts::coefs_ok, lists::specs::All::all))]
+fn coefs_ok(coefs: &[f32]) -> bool
+    ensures { result ≡ coefs_ok coefs.now (length coefs.now) }
 {
     let mut ok = true;
-    let mut t = 0usize;
-    while t < terms {
-        let fine = exact::is_coefficient(coefs[t]);
-        ok = ok & fine;
-        t += 1;
+    for x in coefs {
+        ok &= exact::is_coefficient(*x);
     }
     ok
 }
 
-// Each of n biases from an index on, likewise.
-fn biases_ok(biases: &[f32], from: usize, n: usize) -> bool
-    requires { from + n ≤ length biases.now }
-    ensures { result ≡ biases_ok biases.now from n }
+// Every bias, likewise. What a coefficient may be and what a bias may be are two questions, and each has its own pass.
+#[tactic(auto, unfolding(crate::specs::Parts::biases_ok, lists::specs::All::all))]
+fn biases_ok(biases: &[f32]) -> bool
+    ensures { result ≡ biases_ok biases.now 0 (length biases.now) }
 {
     let mut ok = true;
-    let mut i = 0usize;
-    while i < n {
-        let fine = exact::is_small(biases[from + i]);
-        ok = ok & fine;
-        i += 1;
+    for x in biases {
+        ok &= exact::is_small(*x);
     }
     ok
 }
 
 // All floats in use: coefficients, the outputs' biases, the ops'.
-fn floats_ok(counts: Counts, biases: &[f32], coefs: &[f32]) -> bool
-    requires { (op_biases_from + 2 * counts.ops ≤ length biases.now) × (counts.terms ≤ length coefs.now) × (output_count counts ≤ 896) }
-    ensures { result ≡ floats_ok counts biases.now coefs.now }
+#[tactic(auto, using(crate::proofs::Part::parts), unfolding(crate::specs::Parts::floats_ok))]
+fn floats_ok(circuit: &Circuit) -> bool
+    requires { Sized circuit.now }
+    ensures { result ≡ floats_ok circuit.now.counts circuit.now.biases.now circuit.now.pools.coefs.now }
 {
-    let terms = counts.terms;
-    let outs = 6 * counts.nodes + counts.cursors;
-    let ops = 2 * counts.ops;
-    let weights = coefs_ok(coefs, terms);
-    let of_outs = biases_ok(biases, 0, outs);
-    let of_ops = biases_ok(biases, Biases::OPS, ops);
-    weights & (of_outs & of_ops)
+    coefs_ok(&circuit.pools.coefs[..circuit.counts.terms])
+        && biases_ok(&circuit.biases[..outputs(circuit.counts)])
+        && biases_ok(
+            &circuit.biases[Biases::OPS..Biases::OPS + Biases::PER_OP * circuit.counts.ops],
+        )
 }
 
-// x below n, and 128 otherwise.
-fn slot(x: usize, n: usize) -> usize
-    ensures { result ≡ slot_of x n }
-{
-    if x < n { x } else { 128 }
-}
-
-// Whether n entries hold each number below n once: they are counted, those out of range apart.
-fn once_ok(nums: &[u32], from: usize, n: usize) -> bool
-    requires { (from + n ≤ length nums.now) × (n ≤ 128) }
-    ensures { result ≡ each_once nums.now from n }
+// Whether the entries hold each number below their count once: each is counted, those of 128 and above apart.
+#[tactic(auto, using(crate::proofs::Count::counted, crate::proofs::Count::bounded), unfolding(crate::specs::Check::each_once, lists::specs::All::all))]
+fn once_ok(list: &[u32]) -> bool
+    requires { length list.now ≤ 128 }
+    ensures { result ≡ each_once list.now 0 (length list.now) }
 {
     let mut seen = [0u8; 129];
-    let mut i = 0usize;
-    while i < n {
-        let v = slot(wire_pool::wide(nums[from + i]), n);
-        seen[v] = seen[v] + 1;
-        i += 1;
+    for x in list {
+        seen[(*x as usize).min(128)] += 1;
     }
     let mut ok = true;
-    let mut k = 0usize;
-    while k < n {
-        ok = ok & (seen[k] == 1);
-        k += 1;
+    for times in &seen[..list.len()] {
+        ok &= *times == 1;
     }
     ok
 }
 
-fn lists_ok(counts: Counts, nums: &[u32]) -> bool
-    requires { (counts.nodes ≤ 128) × (counts.cursors ≤ 128) × (counts.leaves ≤ 128) × (ops_from ≤ length nums.now) }
-    ensures { result ≡ lists_ok counts nums.now }
+#[tactic(auto, using(crate::proofs::Part::parts), unfolding(crate::specs::Parts::lists_ok))]
+fn lists_ok(circuit: &Circuit) -> bool
+    requires { Sized circuit.now }
+    ensures { result ≡ lists_ok circuit.now.counts circuit.now.nums.now }
 {
-    let nodes = counts.nodes;
-    let leaves = rises_below(nums, Nums::LEAVES, counts.leaves, nodes);
-    let cursors = rises_below(nums, Nums::CURSORS, counts.cursors, nodes);
-    let report = once_ok(nums, Nums::REPORT, nodes);
-    leaves & (cursors & report)
+    let counts = circuit.counts;
+    rises_below(
+        &circuit.nums[Nums::LEAVES..Nums::LEAVES + counts.leaves],
+        counts.nodes,
+    ) && rises_below(
+        &circuit.nums[Nums::CURSORS..Nums::CURSORS + counts.cursors],
+        counts.nodes,
+    ) && once_ok(&circuit.nums[Nums::REPORT..Nums::REPORT + counts.nodes])
 }
 
 fn sizes_ok(counts: Counts) -> bool
     ensures { result ≡ sizes_ok counts }
 {
-    let nodes = counts.nodes;
-    let cursors = counts.cursors;
-    let leaves = counts.leaves;
-    let cells = counts.cells;
-    if nodes == 0 {
-        return false;
-    }
-    if 128 < nodes {
-        return false;
-    }
-    if nodes < cursors {
-        return false;
-    }
-    if nodes < leaves {
-        return false;
-    }
-    cells == nodes + cursors + 3 * leaves
+    0 < counts.nodes
+        && counts.nodes <= 128
+        && counts.cursors <= counts.nodes
+        && counts.leaves <= counts.nodes
+        && counts.cells == counts.nodes + counts.cursors + 3 * counts.leaves
 }
 
-fn contents_ok(counts: Counts, nums: &[u32], biases: &[f32], wires: &[u32], coefs: &[f32]) -> bool
-    requires held { Held counts (length nums.now) (length biases.now) (length wires.now) (length coefs.now) }
-    requires nodes_bound { (counts.nodes ≤ 128) × (counts.cursors ≤ 128) × (counts.leaves ≤ 128) × (counts.cells ≤ 640) }
-    ensures { result ≡ contents_ok (stored counts nums.now biases.now wires.now coefs.now) }
+// How many output forms there are: six a node, one a cursor.
+fn outputs(counts: Counts) -> usize
+    requires { (counts.nodes ≤ 128) × (counts.cursors ≤ 128) }
+    ensures { result ≡ output_count counts }
 {
-    let floats = floats_ok(counts, biases, coefs);
-    let ops = ops_ok(counts, nums, wires);
-    let outs = outs_ok(counts, nums, wires);
-    let lists = lists_ok(counts, nums);
-    floats & (ops & (outs & lists))
+    6 * counts.nodes + counts.cursors
+}
+
+#[tactic(auto, using(crate::proofs::Passes::passes_are))]
+fn contents_ok(circuit: &Circuit) -> bool
+    requires { Sized circuit.now }
+    ensures { result ≡ contents_ok (stored_in circuit.now) }
+{
+    floats_ok(circuit) && ops_ok(circuit) && outs_ok(circuit) && lists_ok(circuit)
 }
 
 // Whether this is a circuit: where it is not, 17.
-pub fn is_circuit(
-    counts: Counts,
-    nums: &[u32],
-    biases: &[f32],
-    wires: &[u32],
-    coefs: &[f32],
-) -> bool
-    ensures { result ≡ circuit_ok (stored counts nums.now biases.now wires.now coefs.now) }
+#[tactic(auto, using(crate::proofs::Whole::circuit_is, crate::proofs::Whole::sizes_say, wire::proofs::Stored::held))]
+pub fn is_circuit(circuit: &Circuit) -> bool
+    ensures { result ≡ circuit_ok (stored_in circuit.now) }
 {
-    let sized = sizes_ok(counts);
-    if !sized {
-        return false;
-    }
-    let held = wire::storage_holds(counts, nums.len(), biases.len(), wires.len(), coefs.len());
-    if !held {
-        return false;
-    }
-    contents_ok(counts, nums, biases, wires, coefs)
+    sizes_ok(circuit.counts) && wire::storage_holds(circuit) && contents_ok(circuit)
 }

@@ -1,4 +1,3 @@
+pub mod Accepted
 pub mod Above
-pub mod AnswersLaws
 pub mod Cells
-pub mod LaneLaws

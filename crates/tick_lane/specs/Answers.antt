@@ -18,7 +18,8 @@ bit_of x = cond (is_set x) 1 0
 
 -- "0 success, 1 failure, 2 running; 3 not ticked"; "a reached node with none of its three bits set is reported as running"
 abbrev pub status_of : Float → Float → Float → ℕ
-status_of reached success failure = cond (is_set reached) (cond (is_set success) (code_of Success) (cond (is_set failure) (code_of Failure) (code_of Running))) not_ticked
+status_of reached success failure =
+    cond (is_set reached) (cond (is_set success) (code_of Success) (cond (is_set failure) (code_of Failure) (code_of Running))) not_ticked
 
 unfoldable pub status_at : List Float → ℕ → ℕ
 status_at outs i = status_of (get_or outs (6 * i + 3) nan) (get_or outs (6 * i) nan) (get_or outs (6 * i + 1) nan)

@@ -1,47 +1,49 @@
 -- One tick of a circuit that has passed its check, on parts of the right lengths: refusals 15, 16 and 18, and what an accepted tick leaves. Definitions only.
-use Rattle.std.specs.Prelude.{ℕ, suc, List, [], ◌∷◌, Bool, true, false, cond, length, ltb, eqb, Float}
-use Rattle.tick_verdict.specs.declared.Validated.{Validated}
-use Rattle.tick_verdict.specs.declared.Validated.TheVariants.{Sound, BadCircuit, ShortRoom, NotABit, NotOneHot, BadCursor}
-use Rattle.tick_verdict.specs.Verdict.{tick_verdict, node_of}
-use Rattle.tick_verdict.specs.Refusal as validated
+use Rattle.std.specs.Prelude.{ℕ, suc, List, [], ◌∷◌, Bool, Result, Ok, Err, ⊤, is_ok, cond, length, ltb, eqb, Float}
+use Rattle.tick_verdict.specs.Verdict.{Verdict, tick_verdict, node_of}
+use Rattle.tick_verdict.specs.Refusal as broken
 use Rattle.wire.specs.declared.Counts.{Counts}
 use Rattle.lists.specs.Fill.{prefix}
 use Rattle.tick_lane.specs.Answers.{status_at, halt_at, flag_at, edge_at, cursor_at}
 use Rattle.tick_check.specs.Check.{Stored}
 use Rattle.tick_lane.specs.Evaluate.{table_of, outs_of}
-use Rattle.tick_lane.specs.declared.Ticked.{Ticked}
-use Rattle.tick_lane.specs.declared.Ticked.TheVariants as is
+use Rattle.tick_lane.specs.declared.TickError.{TickError}
+use Rattle.tick_lane.specs.declared.TickError.TheVariants as is
 
 -- ---- the answer: document 01's number and place for each case
 
+-- that a tick is accepted, or why it is refused
+abbrev pub Ticked : Type 0
+Ticked = Result ⊤ TickError
+
 abbrev pub number_of : Ticked → ℕ
-number_of is.Accepted = 0
-number_of is.BadCircuit = 17
-number_of (is.LeafCount given) = 11
-number_of (is.StateShape given) = 12
-number_of (is.CursorCount given) = 13
-number_of is.ShortRoom = 14
-number_of (is.BadStatus slot) = 15
-number_of (is.BadFlag node) = 16
-number_of (is.BadInvariant broken) = 18
+number_of (Ok done) = 0
+number_of (Err is.BadCircuit) = 17
+number_of (Err (is.LeafCount given)) = 11
+number_of (Err (is.StateShape given)) = 12
+number_of (Err (is.CursorCount given)) = 13
+number_of (Err is.ShortRoom) = 14
+number_of (Err (is.BadStatus slot)) = 15
+number_of (Err (is.BadFlag node)) = 16
+number_of (Err (is.BadInvariant what)) = 18
 
 abbrev pub place_of : Ticked → ℕ
-place_of is.Accepted = 0
-place_of is.BadCircuit = 0
-place_of (is.LeafCount given) = given
-place_of (is.StateShape given) = given
-place_of (is.CursorCount given) = given
-place_of is.ShortRoom = 0
-place_of (is.BadStatus slot) = slot
-place_of (is.BadFlag node) = node.0
-place_of (is.BadInvariant broken) = validated.place_of broken
+place_of (Ok done) = 0
+place_of (Err is.BadCircuit) = 0
+place_of (Err (is.LeafCount given)) = given
+place_of (Err (is.StateShape given)) = given
+place_of (Err (is.CursorCount given)) = given
+place_of (Err is.ShortRoom) = 0
+place_of (Err (is.BadStatus slot)) = slot
+place_of (Err (is.BadFlag node)) = node.0
+place_of (Err (is.BadInvariant what)) = broken.place_of what
 
 abbrev pub accepted : Ticked → Bool
-accepted t = eqb (number_of t) 0
+accepted t = is_ok t
 
 -- the next answer where a test holds, and a refusal where it does not
-abbrev pub unless : Bool → Ticked → Ticked → Ticked
-unless test refusal next = cond test next refusal
+abbrev pub unless : Bool → TickError → Ticked → Ticked
+unless test refusal next = cond test next (Err refusal)
 
 -- ---- what is lent to be written, and what a tick makes of it
 
@@ -79,17 +81,10 @@ first_above most (x ∷ xs) = cond (ltb most x) 0 (suc (first_above most xs))
 unfoldable pub inputs_of : List ℕ → List ℕ → Ticked
 unfolding first_above
 inputs_of row flags =
-    unless (eqb (first_above 2 row) (length row)) (is.BadStatus (first_above 2 row)) (unless (eqb (first_above 1 flags) (length flags)) (is.BadFlag (node_of (first_above 1 flags))) is.Accepted)
+    unless (eqb (first_above 2 row) (length row)) (is.BadStatus (first_above 2 row))
+    (unless (eqb (first_above 1 flags) (length flags)) (is.BadFlag (node_of (first_above 1 flags))) (Ok tt))
 
 -- ---- 18, and an accepted tick
-
-abbrev pub is_sound : Validated → Bool
-is_sound Sound = true
-is_sound BadCircuit = false
-is_sound ShortRoom = false
-is_sound (NotABit node x) = false
-is_sound (NotOneHot node x) = false
-is_sound (BadCursor cell x) = false
 
 -- "An accepted tick writes the needed prefix of each output and nothing past it."
 unfoldable pub written : Counts → List ℕ → List Float → Lent → Lent
@@ -103,12 +98,15 @@ written n nums outs l =
       edges = prefix (edge_at nums l.flags outs) n.leaves l.edges;
     }
 
--- of the output values, with the value table computed: "18 leaves the value table computed" and writes nothing else
+-- of the verdict on the output values, with the value table computed
+abbrev pub judged : Verdict → Lent → Lent → Outcome
+judged (Ok sound) made l = outcome (Ok tt) made
+judged (Err what) made l = outcome (Err (is.BadInvariant what)) l
+
+-- "18 leaves the value table computed" and writes nothing else
 unfoldable pub settle_of : Counts → List ℕ → List Float → Lent → Outcome
 unfolding written
-settle_of n nums outs l =
-    let v = tick_verdict outs n.nodes n.cursors in
-    cond (is_sound v) (outcome is.Accepted (written n nums outs l)) (outcome (is.BadInvariant v) l)
+settle_of n nums outs l = judged (tick_verdict outs n.nodes n.cursors) (written n nums outs l) l
 
 abbrev pub computed : Lent → List Float → Lent
 computed l table = lent l.flags l.cursors table l.statuses l.halts l.edges

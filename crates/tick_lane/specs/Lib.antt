@@ -1,3 +1,4 @@
 pub mod Answers
 pub mod Evaluate
 pub mod Lane
+pub mod Loans

@@ -18,16 +18,11 @@ pub fn is_running(flag: u8) -> bool
 fn edge(was: bool, is: bool) -> u8
     ensures { result ≡ edge was is }
 {
-    if was {
-        if is {
-            return 0;
-        }
-        return 2;
+    match (was, is) {
+        (false, true) => 1,
+        (true, false) => 2,
+        _ => 0,
     }
-    if is {
-        return 1;
-    }
-    0
 }
 
 // Whether a bit is set: tick.rs's `set`.
@@ -58,69 +53,57 @@ fn status_of(reached: f32, success: f32, failure: f32) -> u8
     2
 }
 
+#[tactic(auto, unfolding(lists::specs::Fill::fill_at, crate::specs::Answers::status_at))]
 pub fn write_statuses(statuses: &mut [u8], outs: &[f32], nodes: usize)
     requires { (nodes ≤ length statuses.old) × (6 * nodes ≤ length outs.now) }
     ensures { statuses.new ≡ fill_at 0 (status_at outs.now) statuses.old nodes }
 {
-    let mut i = 0usize;
-    while i < nodes {
+    for i in 0..nodes {
         let at = 6 * i;
         statuses[i] = status_of(outs[at + 3], outs[at], outs[at + 1]);
-        i += 1;
     }
 }
 
+#[tactic(auto, unfolding(lists::specs::Fill::fill_at, crate::specs::Answers::halt_at))]
 pub fn write_halts(halts: &mut [u8], outs: &[f32], nodes: usize)
     requires { (nodes ≤ length halts.old) × (6 * nodes ≤ length outs.now) }
     ensures { halts.new ≡ fill_at 0 (halt_at outs.now) halts.old nodes }
 {
-    let mut i = 0usize;
-    while i < nodes {
+    for i in 0..nodes {
         halts[i] = bit_of(outs[6 * i + 4]);
-        i += 1;
     }
 }
 
+#[tactic(auto, unfolding(lists::specs::Fill::fill_at, crate::specs::Answers::flag_at))]
 pub fn write_flags(flags: &mut [u8], outs: &[f32], nodes: usize)
     requires { (nodes ≤ length flags.old) × (6 * nodes ≤ length outs.now) }
     ensures { flags.new ≡ fill_at 0 (flag_at outs.now) flags.old nodes }
 {
-    let mut i = 0usize;
-    while i < nodes {
+    for i in 0..nodes {
         flags[i] = bit_of(outs[6 * i + 5]);
-        i += 1;
     }
 }
 
-// The edge of each leaf, whose node the leaf list in nums gives. The flags are still the old ones.
-pub fn write_edges(
-    edges: &mut [u8],
-    nums: &[u32],
-    flags: &[u8],
-    outs: &[f32],
-    leaves: usize,
-    nodes: usize,
-)
-    requires leaves_in_bounds { (leaves ≤ length edges.old) × (leaves_from + leaves ≤ length nums.now) × (nodes ≤ length flags.now) × (6 * nodes ≤ length outs.now) }
-    requires by_index { (s : ℕ) → s < leaves → get_or nums.now (leaves_from + s) 0 < nodes }
+// The edge of each leaf, whose node the leaf list gives. The flags are still the old ones.
+#[tactic(auto, unfolding(lists::specs::Fill::fill_at, crate::specs::Answers::edge_at, crate::specs::Answers::flag_at))]
+pub fn write_edges(edges: &mut [u8], nums: &[u32], flags: &[u8], outs: &[f32], leaves: usize)
+    requires leaves_in_bounds { (leaves ≤ length edges.old) × (leaves_from + leaves ≤ length nums.now) × (6 * length flags.now ≤ length outs.now) }
+    requires by_index { (s : ℕ) → s < leaves → get_or nums.now (leaves_from + s) 0 < length flags.now }
     ensures { edges.new ≡ fill_at 0 (edge_at nums.now flags.now outs.now) edges.old leaves }
 {
-    let mut i = 0usize;
-    while i < leaves {
-        let node = wire_pool::wide(nums[Nums::LEAVES + i]);
+    for i in 0..leaves {
+        let node = nums[Nums::LEAVES + i] as usize;
         let next = bit_of(outs[6 * node + 5]);
         edges[i] = edge(is_running(flags[node]), is_running(next));
-        i += 1;
     }
 }
 
+#[tactic(auto, unfolding(lists::specs::Fill::fill_at, crate::specs::Answers::cursor_at))]
 pub fn write_cursors(cursors: &mut [u32], outs: &[f32], nodes: usize, cells: usize)
     requires { (cells ≤ length cursors.old) × (6 * nodes + cells ≤ length outs.now) }
     ensures { cursors.new ≡ fill_at 0 (cursor_at outs.now nodes) cursors.old cells }
 {
-    let mut i = 0usize;
-    while i < cells {
+    for i in 0..cells {
         cursors[i] = exact::count(outs[6 * nodes + i]);
-        i += 1;
     }
 }

@@ -52,7 +52,9 @@ bit_back b = ap (λ (t : Bool). cond t 1 0) (bit_set b) ∙ go b
     go false = refl
 
 -- a status is one of three
-pub status_sum : (s : Status) → lt one32 (add binary32 (add binary32 (number (K.bit (is_success s))) (number (K.bit (is_failure s)))) (number (K.bit (is_running_status s)))) ≡ false
+pub status_sum : (s : Status)
+    → lt one32 (add binary32 (add binary32 (number (K.bit (is_success s))) (number (K.bit (is_failure s)))) (number (K.bit (is_running_status s))))
+    ≡ false
 status_sum s =
     let a = K.bit (is_success s) in
     let b = K.bit (is_failure s) in
@@ -76,7 +78,8 @@ module _ (v : ℕ) (h : v ≤ 65535) where
 
   pub count_low : le (number v) cursor_most32 ≡ true
   count_low =
-      ap (le (number v)) cursor_most_is ∙ le_diff binary32 v 0 65535 0 (omega arith, omega arith) (omega arith, omega arith) ∙ le-leb (v + 0) (65535 + 0) (omega arith)
+      ap (le (number v)) cursor_most_is ∙ le_diff binary32 v 0 65535 0 (omega arith, omega arith) (omega arith, omega arith)
+      ∙ le-leb (v + 0) (65535 + 0) (omega arith)
 
   pub count_back : count_of (number v) ≡ v
   count_back = count_is (number v) v h (inl refl)
@@ -118,7 +121,8 @@ unfolding bits_of
 bits_length [] = refl
 bits_length (x ∷ xs) = omega (arith, bits_length xs)
 
-pub cursor_at_lem : (xs : List Fate) (cs : List ℕ) (n c : ℕ) → length xs ≡ n → c < length cs → get_or (numbers (bits_of xs ++ cs)) (6 * n + c) nan ≡ number (get_or cs c 0)
+pub cursor_at_lem : (xs : List Fate) (cs : List ℕ) (n c : ℕ) → length xs ≡ n → c < length cs
+    → get_or (numbers (bits_of xs ++ cs)) (6 * n + c) nan ≡ number (get_or cs c 0)
 unfolding bits_of
 cursor_at_lem xs cs n c e h =
     let q : 6 * n + c ≡ length (bits_of xs) + c = omega (arith, bits_length xs) in

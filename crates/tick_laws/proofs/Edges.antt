@@ -25,7 +25,8 @@ Owns flags i [] (x ∷ xs) = ⊥
 Owns flags i (k ∷ ks) [] = ⊥
 Owns flags i (k ∷ ks) (x ∷ xs) = (test k ≡ is_leaf x.own.kind) × (x.own.running ≡ is_running (get_or flags i 0)) × Owns flags (suc i) ks xs
 
-owns_append : (flags : List ℕ) (i j : ℕ) (ks js : List ℕ) (xs ys : List Fate) → i + length ks ≡ j → Owns flags i ks xs → Owns flags j js ys → Owns flags i (ks ++ js) (xs ++ ys)
+owns_append : (flags : List ℕ) (i j : ℕ) (ks js : List ℕ) (xs ys : List Fate)
+    → i + length ks ≡ j → Owns flags i ks xs → Owns flags j js ys → Owns flags i (ks ++ js) (xs ++ ys)
 owns_append flags i j [] js [] ys e h g = let q : j ≡ i = omega arith in rw q at g
 owns_append flags i j [] js (x ∷ xs) ys e h g = absurd h
 owns_append flags i j (k ∷ ks) js [] ys e h g = absurd h
@@ -43,7 +44,8 @@ fates_own flags cursors row call place i c s (node k kids rest) t =
     let told = tells x.kind x.cursor (would_be inner) (call place).ticked ((call place).called && x.running) in (
       t.0,
       refl,
-      owns_append flags (suc i) (suc i + size kids) (preorder kids) (preorder rest) (fates told 0 inner) (fates call (suc place) after) (omega (arith, preorder_length kids))
+      owns_append flags (suc i) (suc i + size kids) (preorder kids) (preorder rest) (fates told 0 inner) (fates call (suc place) after)
+          (omega (arith, preorder_length kids))
           (fates_own flags cursors row told 0 (suc i) (c + cells kind) (s + slots kind) kids t.1)
           (fates_own flags cursors row call (suc place) (suc i + size kids) (c + cells kind + cells_in kids) (s + slots kind + slots_in kids) rest t.2),
     )
@@ -63,11 +65,13 @@ module _ (flags : List ℕ) (all : List Fate) where
       let q : i + 0 ≡ i = omega arith in
       let here : get_or all i no_fate ≡ x = rw q at (e 0 (omega arith)) in
       let one : edge x.own.running (next_flag x) ≡ edge_of i = λ j. edge (h.1 j) (next_flag (sym here j)) in
-      go (test k) (is_leaf x.own.kind) h.0 one (edges_from (suc i) ks xs h.2 (λ j b. let r : suc i + j ≡ i + suc j = omega arith in ap (λ (m : ℕ). get_or all m no_fate) r ∙ e (suc j) (omega arith)))
+      go (test k) (is_leaf x.own.kind) h.0 one
+      (edges_from (suc i) ks xs h.2 (λ j b. let r : suc i + j ≡ i + suc j = omega arith in ap (λ (m : ℕ). get_or all m no_fate) r ∙ e (suc j) (omega arith)))
     where
       go : (a b : Bool) → a ≡ b → edge x.own.running (next_flag x) ≡ edge_of i
           → each (λ x. is_leaf x.own.kind) (λ x. edge x.own.running (next_flag x)) xs ≡ map edge_of (places_from test (suc i) ks)
-          → cond b (edge x.own.running (next_flag x) ∷ []) [] ++ each (λ x. is_leaf x.own.kind) (λ x. edge x.own.running (next_flag x)) xs ≡ map edge_of (listed a i (places_from test (suc i) ks))
+          → cond b (edge x.own.running (next_flag x) ∷ []) [] ++ each (λ x. is_leaf x.own.kind) (λ x. edge x.own.running (next_flag x)) xs
+          ≡ map edge_of (listed a i (places_from test (suc i) ks))
       go true true q one r = λ j. one j ∷ r j
       go false false q one r = r
       go true false q one r = absurd (true≢false q)
@@ -75,7 +79,8 @@ module _ (flags : List ℕ) (all : List Fate) where
 
 -- THE LAW: the edges of a tree
 pub edges_are : (f : Forest ℕ) (flags cursors row : List ℕ) → Tests test is_leaf f
-    → each (λ x. is_leaf x.own.kind) (λ x. edge x.own.running (next_flag x)) (fates_of f flags cursors row) ≡ map (edge_of flags (fates_of f flags cursors row)) (places_from test 0 (preorder f))
+    → each (λ x. is_leaf x.own.kind) (λ x. edge x.own.running (next_flag x)) (fates_of f flags cursors row)
+    ≡ map (edge_of flags (fates_of f flags cursors row)) (places_from test 0 (preorder f))
 unfolding fates_of
 edges_are f flags cursors row t =
     edges_from flags (fates_of f flags cursors row) 0 (preorder f) (fates_of f flags cursors row) (fates_own flags cursors row root_call 0 0 0 0 f t)

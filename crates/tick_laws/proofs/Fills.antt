@@ -52,7 +52,8 @@ status_numbers (suc (suc (suc s))) h = absurd (omega arith)
 
 -- ---- lists that are written
 
-fill_take : {A : Type 0} (base : ℕ) (g : ℕ → A) (xs : List A) (n : ℕ) → base + n ≤ length xs → take (base + n) (fill_at base g xs n) ≡ take base xs ++ each g 0 n
+fill_take : {A : Type 0} (base : ℕ) (g : ℕ → A) (xs : List A) (n : ℕ) → base + n ≤ length xs
+    → take (base + n) (fill_at base g xs n) ≡ take base xs ++ each g 0 n
 unfolding fill_at each
 fill_take base g xs zero h = let e : base + 0 ≡ base = omega arith in ap (λ (k : ℕ). take k xs) e ∙ sym (append-nil (take base xs))
 fill_take {A} base g xs (suc n) h =
@@ -70,7 +71,8 @@ each_numbers g k i zero e = refl
 each_numbers g k i (suc n) e = λ j. e i j ∷ each_numbers g k (suc i) n e j
 
 -- three writes, one after the other
-three_take : (l : List Float) (at : ℕ) (a b c : Float) → at + 3 ≤ length l → take (at + 3) (set (set (set l at a) (at + 1) b) (at + 2) c) ≡ take at l ++ (a ∷ b ∷ c ∷ [])
+three_take : (l : List Float) (at : ℕ) (a b c : Float) → at + 3 ≤ length l
+    → take (at + 3) (set (set (set l at a) (at + 1) b) (at + 2) c) ≡ take at l ++ (a ∷ b ∷ c ∷ [])
 three_take l at a b c h =
     let e3 : at + 3 ≡ suc (at + 2) = omega arith in
     let e2 : at + 2 ≡ suc (at + 1) = omega arith in
@@ -101,7 +103,8 @@ leaves_take base row xs (suc n) h r =
     ∙ ap (λ (l : List Float). take base xs ++ l) (sym (map-append (λ (v : ℕ). number v) (row_cells row n) (three_of (status_of s))))
 
 -- THE LAW: the first cells of the table are the tree's input cells
-pub cells_numbers : (f : Forest ℕ) (n : Counts) (flags cursors row : List ℕ) (values : List Float) → n.nodes ≡ size f → n.cursors ≡ cells_in f → n.leaves ≡ slots_in f
+pub cells_numbers : (f : Forest ℕ) (n : Counts) (flags cursors row : List ℕ) (values : List Float)
+    → n.nodes ≡ size f → n.cursors ≡ cells_in f → n.leaves ≡ slots_in f
     → n.nodes + n.cursors + 3 * n.leaves ≤ length values → ((s : ℕ) → s < n.leaves → get_or row s 0 ≤ 2)
     → take (n.nodes + n.cursors + 3 * n.leaves) (cells_of n row flags cursors values) ≡ numbers (cells_for f flags cursors row)
 unfolding cells_of

@@ -58,7 +58,8 @@ outputs_values ρ none = none
 outputs_values ρ (both h hs) =
     both h.status.is_s (both h.status.is_f (both h.status.is_r (both h.reached (both h.halted (both h.running (outputs_values ρ hs))))))
 
-all2_at : {A B : Type 0} {R : A → B → Type 0} {xs : List A} {ys : List B} (k : ℕ) (a : A) (b : B) → All2 R xs ys → k < length xs → R (get_or xs k a) (get_or ys k b)
+all2_at : {A B : Type 0} {R : A → B → Type 0} {xs : List A} {ys : List B} (k : ℕ) (a : A) (b : B)
+    → All2 R xs ys → k < length xs → R (get_or xs k a) (get_or ys k b)
 all2_at k a b none h = absurd (omega arith)
 all2_at zero a b (both r rs) h = r
 all2_at (suc k) a b (both r rs) h = all2_at k a b rs (omega arith)

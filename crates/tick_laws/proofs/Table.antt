@@ -74,7 +74,8 @@ module _ (op : ℕ → W.Op) (cells : ℕ) (values : List Float) (os : List Op) 
       ∙ ap (λ (x : Float). take (cells + n) now ++ (x ∷ [])) v
       ∙ ap (λ (t : List Float). t ++ (worth t (of_op float o) ∷ [])) ih
       ∙ sym (float_snoc (take cells values) (map (of_op float) (take n os)) (of_op float o))
-      ∙ ap (float_table (take cells values)) (sym (map-append (of_op float) (take n os) (o ∷ [])) ∙ sym (ap (map (of_op float)) (take-suc os n z_op (omega arith))))
+      ∙ ap (float_table (take cells values)) (sym (map-append (of_op float) (take n os) (o ∷ []))
+      ∙ sym (ap (map (of_op float)) (take-suc os n z_op (omega arith))))
 
   pub table_floats : (n : ℕ) → n ≡ length os → take (cells + n) (table_after op cells values n) ≡ float_table (take cells values) (map (of_op float) os)
   table_floats n e =

@@ -9,7 +9,8 @@ use Rattle.construct_means.specs.Means.{cursors_of}
 -- "three statuses, reached, halted, next running per node"
 unfoldable pub bits_of : List Fate → List ℕ
 bits_of [] = []
-bits_of (x ∷ xs) = bit (is_success x.would) ∷ bit (is_failure x.would) ∷ bit (is_running_status x.would) ∷ bit x.ticked ∷ bit x.halted ∷ bit (next_flag x) ∷ bits_of xs
+bits_of (x ∷ xs) =
+    bit (is_success x.would) ∷ bit (is_failure x.would) ∷ bit (is_running_status x.would) ∷ bit x.ticked ∷ bit x.halted ∷ bit (next_flag x) ∷ bits_of xs
 
 -- ".. next cursor per cell"
 abbrev pub values_of : List Fate → List ℕ

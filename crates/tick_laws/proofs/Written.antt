@@ -35,7 +35,8 @@ prefix_all g n xs old e l h =
 
 -- ---- one node
 
-coded : (t : Bool) (s : Status) → cond t (cond (is_success s) (code_of Success) (cond (is_failure s) (code_of Failure) (code_of Running))) not_ticked ≡ cond t (code_of s) not_ticked
+coded : (t : Bool) (s : Status)
+    → cond t (cond (is_success s) (code_of Success) (cond (is_failure s) (code_of Failure) (code_of Running))) not_ticked ≡ cond t (code_of s) not_ticked
 coded false s = refl
 coded true Success = refl
 coded true Failure = refl
@@ -46,7 +47,8 @@ module _ (outs : List Float) (i : ℕ) (x : Fate) (a : NodeAt outs i x) where
   unfolding status_at
   status_is =
       (λ j. status_of (a.ticked j) (a.success j) (a.failure j))
-      ∙ (λ j. cond (bit_set x.ticked j) (cond (bit_set (is_success x.would) j) (code_of Success) (cond (bit_set (is_failure x.would) j) (code_of Failure) (code_of Running))) not_ticked)
+      ∙ (λ j. cond (bit_set x.ticked j) (cond (bit_set (is_success x.would) j) (code_of Success)
+      (cond (bit_set (is_failure x.would) j) (code_of Failure) (code_of Running))) not_ticked)
       ∙ coded x.ticked x.would
 
   halt_is : halt_at outs i ≡ K.bit x.halted
@@ -75,7 +77,8 @@ module _ (xs : List Fate) (cs : List ℕ) (n c : ℕ) (nodes : length xs ≡ n) 
       prefix_is (status_at outs) n (map status xs) old (length-map xs status ∙ nodes)
       (λ k h. status_is outs k (get_or xs k no_fate) (at k h) ∙ sym (map_at status xs k 0 no_fate (omega arith)))
 
-  pub halts_are : (old : List ℕ) → prefix (halt_at outs) n old ≡ map (λ (x : Fate). K.bit x.halted) xs ++ drop (length (map (λ (x : Fate). K.bit x.halted) xs)) old
+  pub halts_are : (old : List ℕ)
+      → prefix (halt_at outs) n old ≡ map (λ (x : Fate). K.bit x.halted) xs ++ drop (length (map (λ (x : Fate). K.bit x.halted) xs)) old
   halts_are old =
       prefix_is (halt_at outs) n (map (λ (x : Fate). K.bit x.halted) xs) old (length-map xs (λ (x : Fate). K.bit x.halted) ∙ nodes)
       (λ k h. halt_is outs k (get_or xs k no_fate) (at k h) ∙ sym (map_at (λ (x : Fate). K.bit x.halted) xs k 0 no_fate (omega arith)))

@@ -1,11 +1,12 @@
 -- Answers as C sees them: document 01's number and place, and of a broken invariant the case and the offending float. Definitions only.
-use Rattle.std.specs.Prelude.{ℕ, Bool, cond}
+use Rattle.std.specs.Prelude.{ℕ, Bool, Err, cond}
 use Rattle.exact.specs.Whole.{zero32}
-use Rattle.tick_verdict.specs.declared.Validated.{Validated}
-use Rattle.tick_verdict.specs.Refusal as validated
-use Rattle.tick_lane.specs.declared.Ticked.{Ticked}
-use Rattle.tick_lane.specs.declared.Ticked.TheVariants as is
-use Rattle.tick_lane.specs.Lane.{number_of, place_of, Lent, Outcome}
+use Rattle.tick_verdict.specs.declared.InvariantError.{InvariantError}
+use Rattle.tick_verdict.specs.Refusal as invariant
+use Rattle.validate.specs.Validate.{Validated}
+use Rattle.validate.specs.Refusal as validated
+use Rattle.tick_lane.specs.declared.TickError.TheVariants as is
+use Rattle.tick_lane.specs.Lane.{Ticked, number_of, place_of, Lent, Outcome}
 use Rattle.tick_refusal.specs.declared.Refusal.{Refusal}
 
 -- 17 where it is no circuit, else 0
@@ -15,20 +16,17 @@ check_number ok = cond ok 0 17
 abbrev pub of_validated : Validated → Refusal
 of_validated v = record { number = validated.number_of v; broken = validated.case_of v; place = validated.place_of v; value = validated.float_of v }
 
--- a refusal with no invariant in it
-abbrev pub plain : Ticked → Refusal
-plain t = record { number = number_of t; broken = 0; place = place_of t; value = zero32 }
+-- no refusal, or one with no invariant in it
+abbrev pub plain : ℕ → ℕ → Refusal
+plain number place = record { number = number; broken = 0; place = place; value = zero32 }
+
+-- 18, with what is broken
+abbrev pub broken : InvariantError → Refusal
+broken what = record { number = 18; broken = invariant.case_of what; place = invariant.place_of what; value = invariant.float_of what }
 
 abbrev pub of_ticked : Ticked → Refusal
-of_ticked is.Accepted = plain is.Accepted
-of_ticked is.BadCircuit = plain is.BadCircuit
-of_ticked (is.LeafCount given) = plain (is.LeafCount given)
-of_ticked (is.StateShape given) = plain (is.StateShape given)
-of_ticked (is.CursorCount given) = plain (is.CursorCount given)
-of_ticked is.ShortRoom = plain is.ShortRoom
-of_ticked (is.BadStatus slot) = plain (is.BadStatus slot)
-of_ticked (is.BadFlag node) = plain (is.BadFlag node)
-of_ticked (is.BadInvariant broken) = record { number = 18; broken = validated.case_of broken; place = validated.place_of broken; value = validated.float_of broken }
+of_ticked (Err (is.BadInvariant what)) = broken what
+of_ticked t = plain (number_of t) (place_of t)
 
 -- a tick's outcome with the answer so
 pub record Told : Type 0 where

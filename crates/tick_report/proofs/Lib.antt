@@ -1,1 +1,1 @@
-pub mod Picked
+pub mod Written

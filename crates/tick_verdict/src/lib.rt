@@ -6,165 +6,125 @@ ghost use Rattle.tick_verdict.specs.Verdict.{bit, one_hot, statuses, marks, node
 
 use index::{CursorCell, NodeIndex};
 
-// What validation answers. A case with a place holds the offending float beside it.
+// A value that is not what it must be: which rule it breaks, where, and the offending float.
 #[derive(Clone, Copy)]
-pub enum Validated {
-    Sound,
-    BadCircuit,
-    ShortRoom,
+pub enum InvariantError {
     NotABit(NodeIndex, f32),
     NotOneHot(NodeIndex, f32),
     BadCursor(CursorCell, f32),
 }
 
-fn bit(node: NodeIndex, x: f32) -> Validated
+fn bit(node: NodeIndex, x: f32) -> Result<(), InvariantError>
     ensures { result ≡ bit node x }
 {
-    let fine = exact::is_bit(x);
-    if !fine {
-        return Validated::NotABit(node, x);
+    if !exact::is_bit(x) {
+        return Err(InvariantError::NotABit(node, x));
     }
-    Validated::Sound
+    Ok(())
 }
 
-fn one_hot(node: NodeIndex, total: f32) -> Validated
+fn one_hot(node: NodeIndex, total: f32) -> Result<(), InvariantError>
     ensures { result ≡ one_hot node total }
 {
     if total > 1.0 {
-        return Validated::NotOneHot(node, total);
+        return Err(InvariantError::NotOneHot(node, total));
     }
-    Validated::Sound
+    Ok(())
 }
 
-fn statuses(node: NodeIndex, success: f32, failure: f32, running: f32) -> Validated
+fn statuses(node: NodeIndex, success: f32, failure: f32, running: f32) -> Result<(), InvariantError>
     ensures { result ≡ statuses node success failure running }
 {
-    let s = bit(node, success);
-    let Validated::Sound = s else {
-        return s;
-    };
-    let f = bit(node, failure);
-    let Validated::Sound = f else {
-        return f;
-    };
-    let r = bit(node, running);
-    let Validated::Sound = r else {
-        return r;
-    };
+    bit(node, success)?;
+    bit(node, failure)?;
+    bit(node, running)?;
     one_hot(node, success + failure + running)
 }
 
-fn marks(node: NodeIndex, reached: f32, halted: f32, next: f32) -> Validated
+fn marks(node: NodeIndex, reached: f32, halted: f32, next: f32) -> Result<(), InvariantError>
     ensures { result ≡ marks node reached halted next }
 {
-    let c = bit(node, reached);
-    let Validated::Sound = c else {
-        return c;
-    };
-    let h = bit(node, halted);
-    let Validated::Sound = h else {
-        return h;
-    };
+    bit(node, reached)?;
+    bit(node, halted)?;
     bit(node, next)
 }
 
-fn node(outs: &[f32], i: usize) -> Validated
+fn node(outs: &[f32], i: usize) -> Result<(), InvariantError>
     requires { 6 * i + 5 < length outs.now }
     ensures { result ≡ node_at outs.now i }
 {
     let at = 6 * i;
-    let s = statuses(NodeIndex(i), outs[at], outs[at + 1], outs[at + 2]);
-    let Validated::Sound = s else {
-        return s;
-    };
+    statuses(NodeIndex(i), outs[at], outs[at + 1], outs[at + 2])?;
     marks(NodeIndex(i), outs[at + 3], outs[at + 4], outs[at + 5])
 }
 
-fn nodes_verdict(outs: &[f32], nodes: usize) -> Validated
+#[tactic(auto, using(crate::proofs::First::first_stop))]
+fn nodes_verdict(outs: &[f32], nodes: usize) -> Result<(), InvariantError>
     requires { 6 * nodes ≤ length outs.now }
     ensures { result ≡ first_of (node_at outs.now) nodes }
 {
-    let mut i = 0usize;
-    while i < nodes {
-        let v = node(outs, i);
-        let Validated::Sound = v else {
-            return v;
-        };
-        i += 1;
+    for i in 0..nodes {
+        node(outs, i)?;
     }
-    Validated::Sound
+    Ok(())
 }
 
-fn cursor(cell: CursorCell, x: f32) -> Validated
+fn cursor(cell: CursorCell, x: f32) -> Result<(), InvariantError>
     ensures { result ≡ cursor cell x }
 {
-    let fine = exact::is_natural(x);
-    if !fine {
-        return Validated::BadCursor(cell, x);
+    if !exact::is_natural(x) {
+        return Err(InvariantError::BadCursor(cell, x));
     }
-    Validated::Sound
+    Ok(())
 }
 
-fn cursors_verdict(outs: &[f32], nodes: usize, cursors: usize) -> Validated
+#[tactic(auto, using(crate::proofs::First::first_stop))]
+fn cursors_verdict(outs: &[f32], nodes: usize, cursors: usize) -> Result<(), InvariantError>
     requires { 6 * nodes + cursors ≤ length outs.now }
     ensures { result ≡ first_of (cursor_at outs.now nodes) cursors }
 {
-    let mut i = 0usize;
-    while i < cursors {
-        let v = cursor(CursorCell(i), outs[6 * nodes + i]);
-        let Validated::Sound = v else {
-            return v;
-        };
-        i += 1;
+    for i in 0..cursors {
+        cursor(CursorCell(i), outs[6 * nodes + i])?;
     }
-    Validated::Sound
+    Ok(())
 }
 
-fn low(cell: CursorCell, x: f32) -> Validated
+fn low(cell: CursorCell, x: f32) -> Result<(), InvariantError>
     ensures { result ≡ low cell x }
 {
     let fine = x <= 65535.0;
     if !fine {
-        return Validated::BadCursor(cell, x);
+        return Err(InvariantError::BadCursor(cell, x));
     }
-    Validated::Sound
+    Ok(())
 }
 
-fn lows_verdict(outs: &[f32], nodes: usize, cursors: usize) -> Validated
+// Another loop than the one above, since all next cursors are found whole before one is asked whether it is low.
+#[tactic(auto, using(crate::proofs::First::first_stop))]
+fn lows_verdict(outs: &[f32], nodes: usize, cursors: usize) -> Result<(), InvariantError>
     requires { 6 * nodes + cursors ≤ length outs.now }
     ensures { result ≡ first_of (low_at outs.now nodes) cursors }
 {
-    let mut i = 0usize;
-    while i < cursors {
-        let v = low(CursorCell(i), outs[6 * nodes + i]);
-        let Validated::Sound = v else {
-            return v;
-        };
-        i += 1;
+    for i in 0..cursors {
+        low(CursorCell(i), outs[6 * nodes + i])?;
     }
-    Validated::Sound
+    Ok(())
 }
 
 // As `validate` in lower.rs, of the output forms' values.
-pub fn values_verdict(outs: &[f32], nodes: usize, cursors: usize) -> Validated
+pub fn values_verdict(outs: &[f32], nodes: usize, cursors: usize) -> Result<(), InvariantError>
     requires { 6 * nodes + cursors ≤ length outs.now }
     ensures { result ≡ values_verdict outs.now nodes cursors }
 {
-    let v = nodes_verdict(outs, nodes);
-    let Validated::Sound = v else {
-        return v;
-    };
+    nodes_verdict(outs, nodes)?;
     cursors_verdict(outs, nodes, cursors)
 }
 
 // A tick's: validation, and then that no next cursor is above 65,535.
-pub fn tick_verdict(outs: &[f32], nodes: usize, cursors: usize) -> Validated
+pub fn tick_verdict(outs: &[f32], nodes: usize, cursors: usize) -> Result<(), InvariantError>
     requires { 6 * nodes + cursors ≤ length outs.now }
     ensures { result ≡ tick_verdict outs.now nodes cursors }
 {
-    let v = values_verdict(outs, nodes, cursors);
-    let Validated::Sound = v else {
-        return v;
-    };
+    values_verdict(outs, nodes, cursors)?;
     lows_verdict(outs, nodes, cursors)
 }

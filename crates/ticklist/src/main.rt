@@ -1,20 +1,33 @@
 // The listing program: from standard input a tree and then leaf rows, to standard output a line for each tick. Lines appear as rows come, and
-// memory does not grow. Crate list_machine says what is printed; here the rooms are lent.
+// memory does not grow. Here the rooms are lent.
 #![tactic(auto)]
 
 mod lent;
 
+ghost use Rattle.std.specs.Prelude.{OnOk};
+ghost use Rattle.list_rows.specs.Listing.{listing};
+ghost use Rattle.list_turns.specs.Lists.{Lists};
+
+use compile::WorkRoom;
 use lent::{
     biases_room, buffer_room, coefs_room, nums_room, wires_room, work_biases_room, work_coefs_room,
     work_nums_room, work_wires_room,
 };
-use list_start::begin;
-use list_turns::{go_on, read_front};
+use list_turns::list;
+use std::io;
+use std::io::{Read, Write};
+use wire::Storage;
 
 fn main(rt: HostRuntime) {
-    let mut input = rt.stdin();
+    // Where a read or a write failed there is nobody left to tell.
+    let _ = list_all(&mut rt.stdin(), &mut rt.stdout());
+}
+
+// The whole program, over any reader and writer.
+fn list_all<R: Read, W: Write>(input: &mut R, output: &mut W) -> io::Result<()>
+    ensures { OnOk result (Lists listing (R.remaining input.old) (R.remaining input.new) (W.contents output.old) (W.contents output.new)) }
+{
     let mut buffer = buffer_room();
-    let mut out = [0u8; 3072];
     let mut nums = nums_room();
     let mut biases = biases_room();
     let mut wires = wires_room();
@@ -23,32 +36,17 @@ fn main(rt: HostRuntime) {
     let mut work_biases = work_biases_room();
     let mut work_wires = work_wires_room();
     let mut work_coefs = work_coefs_room();
-    let have = read_front(&mut input, &mut buffer);
-    let begun = begin(
-        &buffer[..have],
-        &mut out,
-        &mut nums,
-        &mut biases,
-        &mut wires,
-        &mut coefs,
-        &mut work_nums,
-        &mut work_biases,
-        &mut work_wires,
-        &mut work_coefs,
-    );
-    go_on(
-        &mut input,
-        &out,
-        begun.wrote,
-        begun.goes,
-        begun.ended,
-        &mut buffer,
-        begun.read,
-        have,
-        begun.counts,
-        &nums,
-        &biases,
-        &wires,
-        &coefs,
-    );
+    let mut storage = Storage {
+        nums: &mut nums,
+        biases: &mut biases,
+        wires: &mut wires,
+        coefs: &mut coefs,
+    };
+    let mut work = WorkRoom {
+        nums: &mut work_nums,
+        biases: &mut work_biases,
+        wires: &mut work_wires,
+        coefs: &mut work_coefs,
+    };
+    list(input, output, &mut buffer, &mut storage, &mut work)
 }

@@ -1,8 +1,5 @@
 -- A forest's pre-order lists are as long as it has nodes.
-use mathlib.Core.Path.{◌≡◌, refl, ◌∙◌, ap}
-use Prim.Native.Nat.{suc}
-use native.Mathlib.Omega.{arith}
-use lib.ListN.{length, length-append}
+use Rattle.std.proofs.Common.{◌≡◌, refl, ◌∙◌, ap, suc, arith, length, length-append}
 use Rattle.tree.specs.Forest.{Forest, none, node, size, preorder, counts}
 
 pub preorder_length : {X : Type 0} (f : Forest X) → length (preorder f) ≡ size f

@@ -2,4 +2,3 @@ pub mod Answer
 pub mod Lengths
 pub mod Stack
 pub mod Turn
-pub mod Zero

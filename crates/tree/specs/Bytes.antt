@@ -1,9 +1,9 @@
 -- The bytes of a tree whose labels are kinds, and which trees are within the limits. That the accepted bytes are exactly these trees' bytes
 -- is `accepts` and `accepted_tree` of crate tree_laws, proofs/Exact.
-use Rattle.std.specs.Prelude.{◌≡◌, ℕ, ◌/◌, ◌%◌, ◌≤◌, ◌<◌, List, [], ◌∷◌, ◌++◌}
+use Rattle.std.specs.Prelude.{◌≡◌, ℕ, ◌/◌, ◌%◌, ◌≤◌, ◌<◌, List, [], ◌∷◌, ◌++◌, Option, None, Some, IsSomeAnd}
 use Rattle.tree_kinds.specs.declared.Family.{Family}
-use Rattle.tree_kinds.specs.declared.Family.TheVariants.{Leaf, Composite, Decorator, Never, Unknown}
-use Rattle.tree_kinds.specs.Kinds.{row_of}
+use Rattle.tree_kinds.specs.declared.Family.TheVariants.{Leaf, Composite, Decorator, Never}
+use Rattle.tree_kinds.specs.Kinds.{Entry, row_of}
 use Rattle.tree.specs.Forest.{Forest, none, node, width, size, levels}
 
 -- every number of a list is a byte
@@ -21,11 +21,14 @@ payload Leaf count = []
 payload Composite count = u16 count
 payload Decorator count = []
 payload Never count = []
-payload Unknown count = []
 
--- "two-byte length (bytes that follow it), two-byte kind, payload; all little-endian"
+-- "two-byte length (bytes that follow it), two-byte kind, payload; all little-endian". No tree has a node of a kind that the table lacks.
+abbrev pub record_by : Option Entry → ℕ → ℕ → List ℕ
+record_by None kind count = u16 0 ++ u16 kind ++ []
+record_by (Some row) kind count = u16 row.size ++ u16 kind ++ payload row.family count
+
 abbrev pub record_bytes : ℕ → ℕ → List ℕ
-record_bytes kind count = u16 (row_of kind).size ++ u16 kind ++ payload (row_of kind).family count
+record_bytes kind count = record_by (row_of kind) kind count
 
 -- "Nodes stand in pre-order"
 abbrev pub bytes_of : Forest ℕ → List ℕ
@@ -38,11 +41,14 @@ Children Leaf count = count ≡ 0
 Children Composite count = 0 < count
 Children Decorator count = count ≡ 1
 Children Never count = ⊥
-Children Unknown count = ⊥
+
+-- how many a node of a kind may have; there is no node of a kind that the table lacks
+abbrev pub KindChildren : ℕ → ℕ → Type 0
+KindChildren kind count = IsSomeAnd (row_of kind) (λ (row : Entry). Children row.family count)
 
 abbrev pub Lowered : Forest ℕ → Type 0
 Lowered none = Unit {0}
-Lowered (node kind kids rest) = Children (row_of kind).family (width kids) × Lowered kids × Lowered rest
+Lowered (node kind kids rest) = KindChildren kind (width kids) × Lowered kids × Lowered rest
 
 -- a tree that document 01 accepts: "At most 128 nodes; at most 16 levels"
 pub record Within (tree : Forest ℕ) : Type 0 where

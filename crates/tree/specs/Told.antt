@@ -1,7 +1,6 @@
 -- The answer of flattening in document 01's words. Definitions only.
-use Rattle.std.specs.Prelude.{ℕ}
-use Rattle.tree.specs.declared.flat.Flattened.{Flattened}
-use Rattle.tree.specs.declared.flat.Flattened.TheVariants.{Accepted, Refused}
+use Rattle.std.specs.Prelude.{ℕ, Result, Ok, Err}
+use Rattle.tree_record.specs.declared.refusal.Refusal.{Refusal}
 use Rattle.tree_record.specs.Refusal.{number_of, kind_of}
 
 -- how many nodes there are, or a number, its place and its kind
@@ -9,6 +8,6 @@ pub data Told : Type 0 where
   nodes : ℕ → Told
   refused : ℕ → ℕ → ℕ → Told
 
-abbrev pub told : Flattened → Told
-told (Accepted count) = nodes count
-told (Refused refusal) = refused (number_of refusal.cause) refusal.place (kind_of refusal.cause)
+abbrev pub told : Result ℕ Refusal → Told
+told (Ok count) = nodes count
+told (Err refusal) = refused (number_of refusal.cause) refusal.place (kind_of refusal.cause)

@@ -1,12 +1,9 @@
 -- What reading a tree's records in pre-order finds: the kinds and child counts of all nodes, or the first refusal.
-use Rattle.std.specs.Prelude.{◌≡◌, ℕ, zero, suc, ◌+◌, ◌-◌, cond, List, [], ◌∷◌, ◌++◌, length, replicate, leb, ltb}
-use Rattle.tree.specs.declared.flat.Flattened.{Flattened}
-use Rattle.tree_record.specs.declared.record.Record.{Record}
-use Rattle.tree_record.specs.declared.record.Record.TheVariants.{Node}
+use Rattle.std.specs.Prelude.{◌≡◌, ℕ, zero, suc, ◌+◌, ◌-◌, cond, List, [], ◌∷◌, ◌++◌, length, replicate, leb, ltb, Result, Ok, Err}
 use Rattle.tree_record.specs.declared.refusal.Cause.{Cause}
 use Rattle.tree_record.specs.declared.refusal.Cause.TheVariants.{TooDeep, TooManyNodes, Trailing, ShortRoom}
 use Rattle.tree_record.specs.declared.refusal.Refusal.{Refusal}
-use Rattle.tree_record.specs.Record.{record_at}
+use Rattle.tree_record.specs.Record.{Found, record_at}
 
 -- the nodes' kinds and child counts, in pre-order; or a refusal
 pub data Parsed : Type 0 where
@@ -18,11 +15,9 @@ abbrev pub refused_at : Cause → ℕ → Parsed
 refused_at cause place = refused (record { cause = cause; place = place })
 
 -- a record as node n at a level: after 1 to 5, level 17 gives 6, and node 128 gives 7
-abbrev pub limited : Record → ℕ → ℕ → Record
-limited (Record.Refused cause) n level = Record.Refused cause
-limited (Node kind count next) n level =
-    cond (ltb 16 level) (Record.Refused TooDeep)
-    (cond (leb 128 n) (Record.Refused TooManyNodes) (Node kind count next))
+abbrev pub limited : Found → ℕ → ℕ → Found
+limited (Err cause) n level = Err cause
+limited (Ok node) n level = cond (ltb 16 level) (Err TooDeep) (cond (leb 128 n) (Err TooManyNodes) (Ok node))
 
 -- the open ancestors that are left: those whose children have all been read are closed
 abbrev pub settle : List ℕ → List ℕ
@@ -42,9 +37,8 @@ parse zero bytes at n pend kinds counts = refused_at TooManyNodes n
 parse (suc fuel) bytes at n [] kinds counts = ending bytes at n kinds counts
 parse (suc fuel) bytes at n (p ∷ pend) kinds counts =
     elim (limited (record_at bytes at) n (length (p ∷ pend))) [
-      | Record.Refused cause ↦ refused_at cause n
-      | Node kind count next ↦
-          parse fuel bytes next (n + 1) (settle (count ∷ (p - 1) ∷ pend)) (kinds ++ kind ∷ []) (counts ++ count ∷ [])
+      | Err cause ↦ refused_at cause n
+      | Ok node ↦ parse fuel bytes node.next (n + 1) (settle (node.count ∷ (p - 1) ∷ pend)) (kinds ++ node.kind ∷ []) (counts ++ node.count ∷ [])
     ]
 
 -- the root is node 0, at position 0, the one child of nothing
@@ -58,9 +52,9 @@ flat_of kindSlots countSlots bytes =
     (cond (ltb countSlots 128) (refused_at ShortRoom 0) (tree_of bytes))
 
 -- the answer, and what the slots hold: a refusal leaves them all zero, an acceptance leaves the unused ones zero
-abbrev pub answer_of : Parsed → Flattened
-answer_of (accepted kinds counts) = Flattened.Accepted (length kinds)
-answer_of (refused refusal) = Flattened.Refused refusal
+abbrev pub answer_of : Parsed → Result ℕ Refusal
+answer_of (accepted kinds counts) = Ok (length kinds)
+answer_of (refused refusal) = Err refusal
 
 abbrev pub padded : ℕ → List ℕ → List ℕ
 padded slots xs = xs ++ replicate (slots - length xs) 0
@@ -77,8 +71,3 @@ counts_in slots (refused refusal) = replicate slots 0
 abbrev pub Written : Parsed → List ℕ → List ℕ → Type 0
 Written (accepted kinds counts) ks cs = (ks ≡ padded (length ks) kinds) × (cs ≡ padded (length cs) counts)
 Written (refused refusal) ks cs = Unit {0}
-
--- a record that is no node, as the answer at node n
-abbrev pub passed_on : Record → ℕ → Flattened
-passed_on (Record.Refused cause) n = Flattened.Refused (record { cause = cause; place = n })
-passed_on (Node kind count next) n = Flattened.Accepted n

@@ -3,4 +3,4 @@
 
 mod flat;
 
-pub use flat::{Flattened, Level, flatten};
+pub use flat::flatten;

@@ -1,8 +1,5 @@
 -- Document 01's bench cards on tree bytes, with 128 slots lent for kinds and for counts: rows of one table under one statement.
---
-use mathlib.Core.Path.{◌≡◌, refl}
-use mathlib.Core.List.{List, [], ◌∷◌, ◌++◌}
-use Prim.Native.Nat.{ℕ, zero, suc}
+use Rattle.std.proofs.Common.{◌≡◌, refl, List, [], ◌∷◌, ◌++◌, ℕ, zero, suc}
 use Rattle.tree_kinds.specs.Kinds.{rows, row_of}
 use Rattle.tree.specs.Bytes.{bytes_of}
 use Rattle.tree.specs.Forest.{Forest, none, node}

@@ -1,28 +1,22 @@
 -- The accepted bytes are exactly the bytes of the trees within the limits: `accepts` says that each such tree's bytes are accepted, as its
 -- pre-order, and `tree_bytes` that they are bytes; `accepted_tree` that accepted bytes are those of such a tree, whose pre-order was read;
 -- and `one_tree` that it is the only one.
---
-use mathlib.Core.Path.{◌≡◌, refl, sym, ◌∙◌, ap}
-use mathlib.Core.Bool.{Bool, true, false, cond}
-use mathlib.Core.List.{List, [], ◌∷◌, ◌++◌, append_assoc, append-nil}
-use Prim.Native.Nat.{ℕ, zero, suc, ◌+◌, ◌-◌, ◌≤◌, ◌<◌}
-use native.Mathlib.Nat.{add-zero, zero-add, le-max_left, le-max_right, max-le}
-use native.Mathlib.Omega.{arith}
-use borrow.Author.Tests.{le-ltb, lt-leb, ltb-false}
-use lib.Dec.{ltb}
-use lib.ListN.{length, drop, length-append, drop_of_length-le}
-use lib.Seq.{drop-drop, drop_at}
+use Rattle.std.proofs.Common.{Option, None, Some, Ok, Err, IsSomeAnd, ◌≡◌, refl, sym, ◌∙◌, ap, Bool, true, false, cond, List, [], ◌∷◌, ◌++◌, append_assoc}
+use Rattle.std.proofs.Common.{append-nil, ℕ, zero, suc, ◌+◌, ◌-◌, ◌≤◌, ◌<◌, add-zero, zero-add, arith, le-ltb, ltb-false, ltb, length, drop, length-append}
+use Rattle.std.proofs.Common.{drop_of_length-le, drop-drop, drop_at}
+use Rattle.std.proofs.Math.Nat.{le-max_left, le-max_right, max-le}
+use borrow.Author.Tests.{lt-leb}
 use Rattle.tree_kinds.specs.declared.Family.{Family}
-use Rattle.tree_kinds.specs.declared.Family.TheVariants.{Leaf, Composite, Decorator, Never, Unknown}
-use Rattle.tree_kinds.specs.Kinds.{row_of, length_by}
-use Rattle.tree_kinds.proofs.Rows.{table_rule, known}
-use Rattle.tree_record.specs.declared.record.Record.{Record}
-use Rattle.tree_record.specs.declared.record.Record.TheVariants.{Node}
+use Rattle.tree_kinds.specs.declared.Family.TheVariants.{Leaf, Composite, Decorator, Never}
+use Rattle.tree_kinds.specs.Kinds.{Entry, row_of, length_by}
+use Rattle.tree_kinds.proofs.Rows.{follows, known}
+use Rattle.tree_record.specs.declared.record.Node.{Node}
 use Rattle.tree_record.specs.declared.refusal.Cause.TheVariants.{Trailing}
 use Rattle.tree_record.specs.declared.refusal.Refusal.{Refusal}
-use Rattle.tree.specs.Bytes.{Bytes, u16, payload, record_bytes, bytes_of, Children, Lowered, Within}
+use Rattle.tree.specs.Bytes.{Bytes, u16, payload, record_by, record_bytes, bytes_of, Children, KindChildren, Lowered, Within}
 use Rattle.tree.specs.Forest.{Forest, none, node, width, size, levels, preorder, counts}
-use Rattle.tree_record.specs.Record.{record_at}
+use Rattle.tree_record.specs.Record.{Found, record_at}
+use Rattle.tree_record.specs.Record.{node as found_node}
 use Rattle.tree.specs.Tree.{accepted, refused, refused_at, limited, settle, parse, tree_of, flat_of}
 use Rattle.tree.proofs.Answer.{room}
 use Rattle.tree.proofs.Lengths.{preorder_length}
@@ -32,10 +26,10 @@ use Rattle.tree.proofs.Turn.{parse_node, parse_end, parse_stop, within_limits}
 
 -- a node's record is taken where the limits allow it
 taken : (bytes tail : List ℕ) (at n level kind count : ℕ) → drop at bytes ≡ record_bytes kind count ++ tail
-    → Children (row_of kind).family count → level ≤ 16 → n < 128
-    → limited (record_at bytes at) n level ≡ Node kind count (at + length (record_bytes kind count))
+    → KindChildren kind count → level ≤ 16 → n < 128
+    → limited (record_at bytes at) n level ≡ found_node kind count (at + length (record_bytes kind count))
 taken bytes tail at n level kind count e ok l h =
-    let r : record_at bytes at ≡ Node kind count (at + length (record_bytes kind count))
+    let r : record_at bytes at ≡ found_node kind count (at + length (record_bytes kind count))
     = record_local bytes at ∙ ap (λ (b : List ℕ). moved at (record_at b 0)) e ∙ ap (moved at) (node_record kind count tail ok) in
     rw (r, le-ltb 16 level l, lt-leb 128 n h)
 
@@ -71,7 +65,7 @@ reads (node k kids rest) fuel bytes tail at n q ps ks cs ok few deep e =
     let number : n + 1 + size kids + size rest ≡ n + suc (size kids + size rest) = omega arith in
     let listed : (xs ys zs : List ℕ) (x : ℕ) → ((xs ++ x ∷ []) ++ ys) ++ zs ≡ xs ++ x ∷ (ys ++ zs) = λ xs ys zs x. simp append_assoc in
     (λ i. parse (fuels i) bytes at n (settle (pends i ∷ ps)) ks cs)
-    ∙ parse_node (size kids + (size rest + fuel)) bytes at n (suc (width rest + q)) ps ks cs k count (at + length own)
+    ∙ parse_node (size kids + (size rest + fuel)) bytes at n (suc (width rest + q)) ps ks cs (record { kind = k; count = count; next = at + length own })
     (taken bytes (inner ++ (outer ++ tail)) at n _ k count e₁ ok.0 (omega arith) (omega arith))
     ∙ (λ i. parse (size kids + (size rest + fuel)) bytes (at + length own) (n + 1) (settle (one i ∷ less i ∷ ps)) (ks ++ k ∷ []) (cs ++ count ∷ []))
     ∙ reads kids (size rest + fuel) bytes (outer ++ tail) (at + length own) (n + 1) 0 ((width rest + q) ∷ ps) (ks ++ k ∷ []) (cs ++ count ∷ [])
@@ -110,23 +104,21 @@ bytes_append (x ∷ xs) ys h l = (h.0, bytes_append xs ys h.1 l)
 u16_bytes : (n : ℕ) → n < 65536 → Bytes (u16 n)
 u16_bytes n h = (omega arith, (omega arith, tt))
 
-record_bytes_lem : (kind count : ℕ) → Children (row_of kind).family count → count < 65536 → Bytes (record_bytes kind count)
-record_bytes_lem kind count = go (row_of kind).family (row_of kind).size refl ((table_rule kind).1 ∙ ap length_by (sym (table_rule kind).0))
+record_bytes_lem : (kind count : ℕ) → KindChildren kind count → count < 65536 → Bytes (record_bytes kind count)
+record_bytes_lem kind count = go (row_of kind) refl
   where
-    headed : (family : Family) (size : ℕ) → (family ≡ Unknown → ⊥) → (row_of kind).family ≡ family → size < 65536 → Bytes (u16 size ++ u16 kind)
-    headed family size f e l =
-        let k = known kind (λ u. f (sym e ∙ u)) in
-        bytes_append (u16 size) (u16 kind) (u16_bytes size l) (u16_bytes kind (omega arith))
+    by_family : (family : Family) (want : ℕ) → kind ≤ 18 → want ≡ length_by family → Children family count → count < 65536
+        → Bytes (u16 want ++ u16 kind ++ payload family count)
+    by_family Leaf want k l ok h = bytes_append (u16 want) (u16 kind) (u16_bytes want (omega arith)) (u16_bytes kind (omega arith))
+    by_family Decorator want k l ok h = bytes_append (u16 want) (u16 kind) (u16_bytes want (omega arith)) (u16_bytes kind (omega arith))
+    by_family Composite want k l ok h =
+        bytes_append (u16 want ++ u16 kind) (u16 count)
+        (bytes_append (u16 want) (u16 kind) (u16_bytes want (omega arith)) (u16_bytes kind (omega arith))) (u16_bytes count h)
+    by_family Never want k l ok h = absurd ok
 
-    go : (family : Family) (size : ℕ) → (row_of kind).family ≡ family → size ≡ length_by family → Children family count → count < 65536
-        → Bytes (u16 size ++ u16 kind ++ payload family count)
-    go Leaf size e l ok h = headed Leaf size (λ u. let z : ◌≡◌ {A = ℕ} 0 1 = cc in omega arith) e (omega arith)
-    go Decorator size e l ok h = headed Decorator size (λ u. let z : ◌≡◌ {A = ℕ} 0 1 = cc in omega arith) e (omega arith)
-    go Composite size e l ok h =
-        bytes_append (u16 size ++ u16 kind) (u16 count)
-        (headed Composite size (λ u. let z : ◌≡◌ {A = ℕ} 0 1 = cc in omega arith) e (omega arith)) (u16_bytes count h)
-    go Never size e l ok h = absurd ok
-    go Unknown size e l ok h = absurd ok
+    go : (row : Option Entry) → row_of kind ≡ row → IsSomeAnd row (λ (r : Entry). Children r.family count) → count < 65536 → Bytes (record_by row kind count)
+    go None e ok h = absurd ok
+    go (Some row) e ok h = by_family row.family row.size (known kind row e) (follows kind row e).1 ok h
 
 width_size : (f : Forest ℕ) → width f ≤ size f
 width_size none = omega arith
@@ -183,7 +175,7 @@ regroup : (a b c d : List ℕ) → a ++ (b ++ (c ++ d)) ≡ ((a ++ b) ++ c) ++ d
 regroup a b c d = simp append_assoc
 
 -- a node with its children and the trees after it
-noded : (k c p : ℕ) (ps bytes ks cs : List ℕ) → 0 < p → length ps < 16 → Children (row_of k).family c
+noded : (k c p : ℕ) (ps bytes ks cs : List ℕ) → 0 < p → length ps < 16 → KindChildren k c
     → Grown (c ∷ (p - 1) ∷ ps) bytes ks cs → Grown (p ∷ ps) (record_bytes k c ++ bytes) (k ∷ ks) (c ∷ cs)
 noded k c p ps bytes ks cs h l ok g =
     let kids = g.forest in
@@ -207,11 +199,12 @@ noded k c p ps bytes ks cs h l ok g =
     }
 
 -- a record that is read at a position is read there at 0
-unmoved : (at : ℕ) (r : Record) (k c x : ℕ) → moved at r ≡ Node k c x → (next : ℕ) × (r ≡ Node k c next) × (x ≡ at + next)
-unmoved at (Record.Refused cause) k c x e = let z : ◌≡◌ {A = ℕ} 0 1 = cc in absurd (omega arith)
-unmoved at (Node kind count next) k c x e =
-    let a : kind ≡ k = cc in let b : count ≡ c = cc in let d : at + next ≡ x = cc in
-    (next, (λ i. Node (a i) (b i) next), sym d)
+unmoved : (at : ℕ) (r : Found) (taken : Node) → moved at r ≡ Ok taken
+    → (next : ℕ) × (r ≡ found_node taken.kind taken.count next) × (taken.next ≡ at + next)
+unmoved at (Err cause) taken e = absurd (cc)
+unmoved at (Ok n) taken e =
+    let same : record { kind = n.kind; count = n.count; next = at + n.next } ≡ taken = cc in
+    (n.next, (λ i. found_node (same i).kind (same i).count n.next), sym (ap (λ (t : Node). t.next) same))
 
 bytes_drop : (n : ℕ) (bytes : List ℕ) → Bytes bytes → Bytes (drop n bytes)
 bytes_drop zero bytes h = h
@@ -228,13 +221,16 @@ pub record Added (pend bytes ks cs ks' cs' : List ℕ) (n : ℕ) : Type 0 where
   pub grown : Grown pend bytes kinds counted
 
 -- a record that is taken, with what was added after it
-added_node : (bytes ks cs ks' cs' ps : List ℕ) (at n p k c x : ℕ) → Bytes bytes → 0 < p
-    → limited (record_at bytes at) n (length (p ∷ ps)) ≡ Node k c x
-    → Added (settle (c ∷ (p - 1) ∷ ps)) (drop x bytes) (ks ++ k ∷ []) (cs ++ c ∷ []) ks' cs' (n + 1)
+added_node : (bytes ks cs ks' cs' ps : List ℕ) (at n p : ℕ) (taken : Node) → Bytes bytes → 0 < p
+    → limited (record_at bytes at) n (length (p ∷ ps)) ≡ Ok taken
+    → Added (settle (taken.count ∷ (p - 1) ∷ ps)) (drop taken.next bytes) (ks ++ taken.kind ∷ []) (cs ++ taken.count ∷ []) ks' cs' (n + 1)
     → Added (p ∷ ps) (drop at bytes) ks cs ks' cs' n
-added_node bytes ks cs ks' cs' ps at n p k c x ok h e a =
-    let w = within_limits (record_at bytes at) n (length (p ∷ ps)) k c x e in
-    let u = unmoved at (record_at (drop at bytes) 0) k c x (sym (record_local bytes at) ∙ w.2) in
+added_node bytes ks cs ks' cs' ps at n p taken ok h e a =
+    let k = taken.kind in
+    let c = taken.count in
+    let x = taken.next in
+    let w = within_limits (record_at bytes at) n (length (p ∷ ps)) taken e in
+    let u = unmoved at (record_at (drop at bytes) 0) taken (sym (record_local bytes at) ∙ w.read) in
     let r = record_node (drop at bytes) k c u.0 (bytes_drop at bytes ok) u.1 in
     let here : drop at bytes ≡ record_bytes k c ++ drop x bytes
     = r.these ∙ ap (λ (b : List ℕ). record_bytes k c ++ b) (drop-drop u.0 at bytes ∙ ap (λ (i : ℕ). drop i bytes) (sym u.2)) in
@@ -247,13 +243,13 @@ added_node bytes ks cs ks' cs' ps at n p k c x ok h e a =
       few = omega arith;
       grown =
           rw here
-          (noded k c p ps (drop x bytes) a.kinds a.counted h (omega arith) r.children
+          (noded k c p ps (drop x bytes) a.kinds a.counted h (omega (arith, w.shallow)) r.children
           (unsettled (c ∷ (p - 1) ∷ ps) (drop x bytes) a.kinds a.counted (omega arith) a.grown));
     }
 
 -- a refusal is no acceptance
 apart : {A : Type 0} (refusal : Refusal) (ks cs : List ℕ) → refused refusal ≡ accepted ks cs → A
-apart refusal ks cs e = let z : ◌≡◌ {A = ℕ} 0 1 = cc in absurd (omega arith)
+apart refusal ks cs e = absurd (cc)
 
 -- the innermost open ancestor still has a child to come
 abbrev Settled : List ℕ → Type 0
@@ -287,17 +283,19 @@ adds (suc fuel) bytes at n [] ks cs ks' cs' ok h few e = go (ltb at (length byte
         }
 adds (suc fuel) bytes at n (p ∷ ps) ks cs ks' cs' ok h few e =
     go (limited (record_at bytes at) n (length (p ∷ ps))) refl
-    (λ k c x. adds fuel bytes x (n + 1) (settle (c ∷ (p - 1) ∷ ps)) (ks ++ k ∷ []) (cs ++ c ∷ []) ks' cs' ok (settled (c ∷ (p - 1) ∷ ps)))
+    (λ t. adds fuel bytes t.next (n + 1) (settle (t.count ∷ (p - 1) ∷ ps)) (ks ++ t.kind ∷ []) (cs ++ t.count ∷ []) ks' cs' ok
+    (settled (t.count ∷ (p - 1) ∷ ps)))
   where
-    go : (r : Record) → limited (record_at bytes at) n (length (p ∷ ps)) ≡ r
-        → ((k c x : ℕ) → n + 1 ≤ 128 → parse fuel bytes x (n + 1) (settle (c ∷ (p - 1) ∷ ps)) (ks ++ k ∷ []) (cs ++ c ∷ []) ≡ accepted ks' cs'
-        → Added (settle (c ∷ (p - 1) ∷ ps)) (drop x bytes) (ks ++ k ∷ []) (cs ++ c ∷ []) ks' cs' (n + 1))
+    go : (r : Found) → limited (record_at bytes at) n (length (p ∷ ps)) ≡ r
+        → ((t : Node) → n + 1 ≤ 128
+        → parse fuel bytes t.next (n + 1) (settle (t.count ∷ (p - 1) ∷ ps)) (ks ++ t.kind ∷ []) (cs ++ t.count ∷ []) ≡ accepted ks' cs'
+        → Added (settle (t.count ∷ (p - 1) ∷ ps)) (drop t.next bytes) (ks ++ t.kind ∷ []) (cs ++ t.count ∷ []) ks' cs' (n + 1))
         → Added (p ∷ ps) (drop at bytes) ks cs ks' cs' n
-    go (Record.Refused cause) l ih = apart _ ks' cs' (sym (parse_stop fuel bytes at n p ps ks cs cause l) ∙ e)
-    go (Node k c x) l ih =
-        let w = within_limits (record_at bytes at) n (length (p ∷ ps)) k c x l in
-        added_node bytes ks cs ks' cs' ps at n p k c x ok h l
-        (ih k c x (omega arith) (sym (parse_node fuel bytes at n p ps ks cs k c x l) ∙ e))
+    go (Err cause) l ih = apart _ ks' cs' (sym (parse_stop fuel bytes at n p ps ks cs cause l) ∙ e)
+    go (Ok taken) l ih =
+        let w = within_limits (record_at bytes at) n (length (p ∷ ps)) taken l in
+        added_node bytes ks cs ks' cs' ps at n p taken ok h l
+        (ih taken (omega (arith, w.few)) (sym (parse_node fuel bytes at n p ps ks cs taken l) ∙ e))
 
 -- a tree whose bytes and pre-order these are
 pub record Tree (bytes ks cs : List ℕ) : Type 0 where

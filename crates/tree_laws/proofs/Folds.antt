@@ -1,12 +1,6 @@
 -- A fold of a pre-order list with a stack is the recursion over the tree, once for whatever is computed: `fold_up` from the right,
 -- `fold_down` from the left.
---
-use Prim.Native.Nat.{ℕ, suc}
-use native.Mathlib.Omega.{arith}
-use mathlib.Core.Path.{◌≡◌, refl, ap, sym, ◌∙◌}
-use mathlib.Core.List.{List, [], ◌∷◌, ◌++◌, append_assoc, append-nil}
-use lib.ListN.{length, take, drop}
-use lib.Seq.{take_at, drop_at}
+use Rattle.std.proofs.Common.{ℕ, suc, arith, ◌≡◌, refl, ap, sym, ◌∙◌, List, [], ◌∷◌, ◌++◌, append_assoc, append-nil, length, take, drop, take_at, drop_at}
 use Rattle.tree.specs.Forest.{Forest, none, node, width, preorder, Counted}
 use Rattle.tree.specs.Fold.{answers, lefts, stacked, stack_lefts, first, spreads, falls, Tells}
 

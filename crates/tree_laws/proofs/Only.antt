@@ -1,8 +1,5 @@
 -- A forest is all that its pre-order and its child counts say: no other forest has them. Read from the right with a stack, they give it back.
---
-use mathlib.Core.Path.{◌≡◌, refl, sym, ◌∙◌, ap}
-use mathlib.Core.List.{List, [], ◌∷◌, ◌++◌, append_assoc, append-nil}
-use Prim.Native.Nat.{ℕ, suc}
+use Rattle.std.proofs.Common.{zip, ◌≡◌, refl, sym, ◌∙◌, ap, List, [], ◌∷◌, ◌++◌, append_assoc, append-nil, ℕ, suc}
 use Rattle.tree.specs.Forest.{Forest, none, node, width, preorder, counts, Counted}
 use Rattle.tree.specs.Fold.{answers, stacked}
 use Rattle.tree_laws.proofs.Folds.{stacked_append}
@@ -15,11 +12,6 @@ abbrev Single : Type 0 → Type 0
 Single X = X × Forest X
 
 module _ {X : Type 0} where
-  abbrev zip : List X → List ℕ → List (Labelled X)
-  zip [] cs = []
-  zip (x ∷ xs) [] = []
-  zip (x ∷ xs) (c ∷ cs) = (x, c) ∷ zip xs cs
-
   abbrev label : Forest X → Forest (Labelled X)
   label none = none
   label (node x kids rest) = node (x, width kids) (label kids) (label rest)

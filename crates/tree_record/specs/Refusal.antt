@@ -18,14 +18,5 @@ number_of ShortRoom = 14
 
 -- the kind that 4 carries, and 0 beside any other number
 abbrev pub kind_of : Cause → ℕ
-kind_of Truncated = 0
-kind_of BadLength = 0
-kind_of BadKind = 0
 kind_of (Unsupported kind) = kind
-kind_of EmptyComposite = 0
-kind_of TooDeep = 0
-kind_of TooManyNodes = 0
-kind_of Trailing = 0
-kind_of NoOpRoom = 0
-kind_of NoTermRoom = 0
-kind_of ShortRoom = 0
+kind_of _ = 0

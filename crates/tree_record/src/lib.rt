@@ -4,5 +4,5 @@
 mod record;
 mod refusal;
 
-pub use record::{Record, read_record};
+pub use record::{Node, read_record};
 pub use refusal::{Cause, Refusal};

@@ -1,79 +1,71 @@
 // The reader of a record.
-ghost use Rattle.std.specs.Prelude.{◌≡◌, ◌+◌, ◌≤◌, ◌<◌, length};
+ghost use Rattle.std.specs.Prelude.{◌≡◌, ◌+◌, ◌≤◌, ◌<◌, ◌==◌, if◌then◌else◌, length};
 ghost use Rattle.tree_kinds.specs.Kinds.{row_of};
 ghost use Rattle.tree_record.specs.Record.{u16_at, row_record, record_at};
 
 use crate::refusal::Cause;
 use tree_kinds::{Family, row_of};
 
-// What stands at a position: a whole record's kind, its node's child count and the position of the next record; or why there is none.
+// The node that a record holds: its kind, how many children it has, and the position of the next record. The kind stays the number that the
+// record holds, as the slots that are lent hold numbers.
 #[derive(Clone, Copy)]
-pub enum Record {
-    Node { kind: u8, count: u16, next: usize },
-    Refused(Cause),
+pub struct Node {
+    pub kind: u8,
+    pub count: u16,
+    pub next: usize,
 }
 
-pub fn read_record(bytes: &[u8], at: usize) -> Record
+// The node whose record stands at a position, or why there is none.
+#[tactic(auto, unfolding(crate::specs::Record::record_at))]
+pub fn read_record(bytes: &[u8], at: usize) -> Result<Node, Cause>
     ensures { result ≡ record_at bytes.now at }
 {
-    if bytes.len() < at {
-        return Record::Refused(Cause::Truncated);
-    }
-    let left = bytes.len() - at;
+    let left = bytes.len().saturating_sub(at);
     if left < 2 {
-        return Record::Refused(Cause::Truncated);
+        return Err(Cause::Truncated);
     }
     let size = u16_at(bytes, at);
     if size < 2 {
-        return Record::Refused(Cause::BadLength);
+        return Err(Cause::BadLength);
     }
-    if left - 2 < size as usize {
-        return Record::Refused(Cause::Truncated);
+    if left - 2 < usize::from(size) {
+        return Err(Cause::Truncated);
     }
     by_row(bytes, at, size)
 }
 
 // A record that is all there, by the row of its kind.
-fn by_row(bytes: &[u8], at: usize, size: u16) -> Record
-    requires { (2 ≤ size) × (at + 2 + size ≤ length bytes.now) }
-    ensures { result ≡ row_record (row_of (u16_at bytes.now (at + 2))) bytes.now at size (u16_at bytes.now (at + 2)) }
+#[tactic(auto, using(tree_kinds::proofs::Rows::known, tree_kinds::proofs::Rows::composite_length))]
+fn by_row(bytes: &[u8], at: usize, size: u16) -> Result<Node, Cause>
+    requires long { 2 ≤ size }
+    requires inside { at + 2 + size ≤ length bytes.now }
+    ensures { let kind = u16_at bytes.now (at + 2) in result ≡ row_record (row_of kind) bytes.now at size kind }
 {
     let kind = u16_at(bytes, at + 2);
-    let row = row_of(kind);
-    let family = row.family;
-    let want = row.size;
-    if let Family::Unknown = family {
-        return Record::Refused(Cause::BadKind);
-    }
-    if let Family::Never = family {
-        return Record::Refused(Cause::Unsupported(kind as u8));
-    }
-    if size != want {
-        return Record::Refused(Cause::BadLength);
-    }
-    let next = at + 2 + size as usize;
-    if let Family::Leaf = family {
-        return Record::Node {
-            kind: kind as u8,
-            count: 0,
-            next: next,
-        };
-    }
-    if let Family::Decorator = family {
-        return Record::Node {
-            kind: kind as u8,
-            count: 1,
-            next: next,
-        };
-    }
-    let count = u16_at(bytes, at + 4);
-    if count == 0 {
-        return Record::Refused(Cause::EmptyComposite);
-    }
-    Record::Node {
-        kind: kind as u8,
-        count: count,
-        next: next,
+    let row = row_of(kind).ok_or(Cause::BadKind)?;
+    let kind = kind as u8;
+    let count = match row.family {
+        Family::Never => return Err(Cause::Unsupported(kind)),
+        _ if size != row.size => return Err(Cause::BadLength),
+        Family::Leaf => 0,
+        Family::Decorator => 1,
+        Family::Composite => child_count(bytes, at + 4)?,
+    };
+    Ok(Node {
+        kind,
+        count,
+        next: at + 2 + usize::from(size),
+    })
+}
+
+// A composite's child count, which is not 0.
+fn child_count(bytes: &[u8], at: usize) -> Result<u16, Cause>
+    requires { at + 1 < length bytes.now }
+    ensures { result ≡ (if u16_at bytes.now at == 0 then Err Cause.EmptyComposite else Ok (u16_at bytes.now at)) }
+{
+    match u16_at(bytes, at) {
+        0 => Err(Cause::EmptyComposite),
+        count => Ok(count),
     }
 }
 
@@ -82,7 +74,5 @@ fn u16_at(bytes: &[u8], at: usize) -> u16
     requires { at + 1 < length bytes.now }
     ensures { result ≡ u16_at bytes.now at }
 {
-    let low = bytes[at] as u16;
-    let high = bytes[at + 1] as u16;
-    low + 256 * high
+    u16::from_le_bytes([bytes[at], bytes[at + 1]])
 }

@@ -41,10 +41,10 @@ impl Cause {
     pub fn kind(self) -> u8
         ensures { result ≡ kind_of self }
     {
-        let Cause::Unsupported(kind) = self else {
-            return 0;
-        };
-        kind
+        match self {
+            Cause::Unsupported(kind) => kind,
+            _ => 0,
+        }
     }
 }
 

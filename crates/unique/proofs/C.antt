@@ -17,6 +17,9 @@ use mathlib.Core.List.{List}
 use Prim.Native.Nat.{ℕ}
 use lib.Ieee.{Float}
 use Rattle.arena.specs.Arena.{Outcome}
+use denote.Triple.Entry.{Args}
+use denote.Triple.Clauses.{Lasts}
+use Rattle.tick_lane.specs.Lane.{Lent}
 use Rattle.arena_c.specs.declared.Row.{Row}
 use Rattle.arena_c.specs.Flat.{Leaves}
 use Rattle.palthengi.proofs.palthengi_compile
@@ -43,18 +46,25 @@ use Rattle.arena_c.proofs.palthengi_scaled
 use Rattle.arena_c.specs.contracts.palthengi_scaled as palthengi_scaled_contract
 use Rattle.arena_c.proofs.palthengi_one_minus
 use Rattle.arena_c.specs.contracts.palthengi_one_minus as palthengi_one_minus_contract
-use Rattle.unique.specs.One.{One}
-use Rattle.unique.proofs.Compile.{four}
-use Rattle.unique.proofs.Tick.{left}
+use Rattle.unique.specs.One.{Lifetimes, One}
 
 pub one_compilation : One palthengi_compile_contract.ended palthengi_compile.Reads.Post
 one_compilation κs a x y u v p q =
     let same = p.0 ∙⁻¹ q.0 in
-    let work = four p.1 q.1 in
-    (λ i. (same i).answer, λ i. (tt, ((same i).nums, ((same i).biases, ((same i).wires, ((same i).coefs, work i))))))
+    let nums = p.1.0 ∙⁻¹ q.1.0 in
+    let biases = p.1.1 ∙⁻¹ q.1.1 in
+    let wires = p.1.2 ∙⁻¹ q.1.2 in
+    let coefs = p.1.3 ∙⁻¹ q.1.3 in (
+      λ i. (same i).answer,
+      λ i. (tt, ((same i).nums, ((same i).biases, ((same i).wires, ((same i).coefs, (nums i, (biases i, (wires i, (coefs i, tt))))))))),
+    )
 
 pub one_check : One palthengi_check_contract.ended palthengi_check.Reads.Post
 one_check κs a x y u v p q = (p ∙⁻¹ q, refl)
+
+-- what a tick leaves: six parameters before these are not written
+abbrev left : (κs : Lifetimes palthengi_tick_contract.ended) (a : Args (palthengi_tick_contract.ended).signature κs) → Lent → Lasts palthengi_tick_contract.ended κs a
+left κs a l = (tt, (tt, (tt, (tt, (tt, (tt, (l.flags, (l.cursors, (l.values, (l.statuses, (l.halts, (l.edges, tt))))))))))))
 
 pub one_tick : One palthengi_tick_contract.ended palthengi_tick.Reads.Post
 one_tick κs a x y u v p q = let same = p ∙⁻¹ q in (λ i. (same i).answer, λ i. left κs a (same i).left)

@@ -11,7 +11,6 @@
 use mathlib.Core.Path.{refl, ◌∙⁻¹◌}
 use mathlib.Core.List.{List}
 use Prim.Native.Nat.{ℕ}
-use lib.Ieee.{Float}
 use Rattle.list_machine.specs.Begin.{Rooms}
 use Rattle.list_text.proofs.write_line
 use Rattle.list_text.specs.contracts.write_line as write_line_contract
@@ -29,7 +28,10 @@ use Rattle.list_ends.proofs.finish
 use Rattle.list_ends.specs.contracts.finish as finish_contract
 use Rattle.list_ends.proofs.move_down
 use Rattle.list_ends.specs.contracts.move_down as move_down_contract
-use Rattle.unique.specs.One.{One}
+use Rattle.list_rows.specs.Rows.{Kept}
+use Rattle.list_rows.specs.Left.{kept_in}
+use Rattle.unique.specs.One.{One, OneLeft}
+use Rattle.unique.specs.Left.{Four, in_storage, in_room}
 
 pub one_line : One write_line_contract.ended write_line.Reads.Post
 one_line κs a x y u v p q = (p.0 ∙⁻¹ q.0, λ i. ((p.1 ∙⁻¹ q.1) i, u.1))
@@ -43,35 +45,29 @@ one_bad κs a x y u v p q = (p.0 ∙⁻¹ q.0, λ i. ((p.1 ∙⁻¹ q.1) i, u.1)
 pub one_outer : One outer_at_contract.ended outer_at.Reads.Post
 one_outer κs a x y u v p q = (p ∙⁻¹ q, refl)
 
--- the rooms in the order in which they are lent
-abbrev rooms : Rooms → List ℕ × (List Float × (List ℕ × (List Float × (List ℕ × (List Float × (List ℕ × (List Float × Unit {0})))))))
-rooms m = (m.nums, (m.biases, (m.wires, (m.coefs, (m.work_nums, (m.work_biases, (m.work_wires, (m.work_coefs, tt))))))))
+-- two rooms as they are lent
+abbrev split : Rooms → Four × Four
+split m = ((m.nums, (m.biases, (m.wires, m.coefs))), (m.work_nums, (m.work_biases, (m.work_wires, m.work_coefs))))
 
-pub one_beginning : One begin_contract.ended begin.Reads.Post
+pub one_beginning : OneLeft begin_contract.ended begin.Reads.Post (List ℕ × (Four × Four)) (λ κs a u. (u.1.0, (in_storage u.1.1.0, in_room u.1.1.1.0)))
 one_beginning κs a x y u v p q =
-    let out = p.out_is ∙⁻¹ q.out_is in
-    let left = p.left_is ∙⁻¹ q.left_is in (
-      λ i. record {
-        read = (p.read_is ∙⁻¹ q.read_is) i;
-        wrote = (p.wrote_is ∙⁻¹ q.wrote_is) i;
-        goes = (p.goes_is ∙⁻¹ q.goes_is) i;
-        ended = (p.ended_is ∙⁻¹ q.ended_is) i;
-        counts = (p.counts_is ∙⁻¹ q.counts_is) i;
-      },
-      λ i. (tt, (out i, rooms (left i))),
+    let out = p.1.out_is ∙⁻¹ q.1.out_is in
+    let left = p.1.left_is ∙⁻¹ q.1.left_is in (
+      λ i. record { read = (p.1.read_is ∙⁻¹ q.1.read_is) i; wrote = (p.1.wrote_is ∙⁻¹ q.1.wrote_is) i; due = (p.1.due_is ∙⁻¹ q.1.due_is) i },
+      λ i. (out i, split (left i)),
     )
 
-pub one_run : One list_rows_contract.ended list_rows.Reads.Post
+pub one_run : OneLeft list_rows_contract.ended list_rows.Reads.Post (List ℕ × Kept) (λ κs a u. (u.1.1.0, kept_in u.1.1.1.1.1.0))
 one_run κs a x y u v p q =
-    let out = p.out_is ∙⁻¹ q.out_is in
-    let kept = p.kept_is ∙⁻¹ q.kept_is in (
+    let out = p.1.out_is ∙⁻¹ q.1.out_is in
+    let kept = p.1.kept_is ∙⁻¹ q.1.kept_is in (
       λ i. record {
-        read = (p.read_is ∙⁻¹ q.read_is) i;
-        wrote = (p.wrote_is ∙⁻¹ q.wrote_is) i;
-        number = (p.number_is ∙⁻¹ q.number_is) i;
-        ended = (p.ended_is ∙⁻¹ q.ended_is) i;
+        read = (p.1.read_is ∙⁻¹ q.1.read_is) i;
+        wrote = (p.1.wrote_is ∙⁻¹ q.1.wrote_is) i;
+        number = (p.1.number_is ∙⁻¹ q.1.number_is) i;
+        ended = (p.1.ended_is ∙⁻¹ q.1.ended_is) i;
       },
-      λ i. (tt, (tt, (out i, (tt, (tt, (tt, (tt, (tt, (tt, ((kept i).flags, ((kept i).cursors, ((kept i).values, tt)))))))))))),
+      λ i. (out i, kept i),
     )
 
 pub one_last_line : One finish_contract.ended finish.Reads.Post

@@ -9,8 +9,16 @@
 --   lower_reach_node: next_cursor *     cursor_in, lower_passes specs/Reach
 --   lower_reach: reach *                reach_in, lower_passes specs/Reach
 --   lower_build: build *                build_in, lower_passes specs/Build
-use mathlib.Core.Path.{refl, ◌∙⁻¹◌, ap}
-use mathlib.Core.List.{[]}
+use mathlib.Core.Path.{◌≡◌, refl, ◌∙⁻¹◌}
+use Rattle.builder_table.specs.declared.lent.Builder.{Builder}
+use Rattle.builder_table.specs.Work.{Stood, stood}
+use Rattle.lower_passes.specs.declared.Decision.{Decision}
+use Rattle.lower_passes.specs.declared.UpMark.{UpMark}
+use Rattle.lower_passes.specs.declared.DownMark.{DownMark}
+use Rattle.lower_passes.specs.Arbitrate.{Raised}
+use Rattle.lower_passes.specs.Ordered.{Ordains}
+use Rattle.lower_passes.specs.Reach.{Lowered}
+use Rattle.lower_passes.specs.Loans.{Decides, Raises, Lowers}
 use Rattle.lower_ordered.proofs.lower_ordered
 use Rattle.lower_ordered.specs.contracts.lower_ordered as lower_ordered_contract
 use Rattle.lower_arbitrate.proofs.arbitrate
@@ -29,32 +37,56 @@ use Rattle.lower_reach.proofs.reach
 use Rattle.lower_reach.specs.contracts.reach as reach_contract
 use Rattle.lower_build.proofs.build
 use Rattle.lower_build.specs.contracts.build as build_contract
-use Rattle.unique.specs.One.{One}
-use Rattle.unique.proofs.Builder.{made, table}
+use Rattle.unique.specs.One.{OneLeft}
+use Rattle.unique.specs.Left.{built}
+use Rattle.unique.proofs.Builder.{decided, left}
 
-pub one_ordered : One lower_ordered_contract.ended lower_ordered.Reads.Post
-one_ordered κs a x y u v p q = let same = p ∙⁻¹ q in (λ i. (same i).ordered, λ i. table u.1.1.1.1 (same i).mem)
+-- ---- what a step of a pass answers, and what is left
 
-pub one_arbitration : One arbitrate_contract.ended arbitrate.Reads.Post
-one_arbitration κs a x y u v p q = let same = p ∙⁻¹ q in (λ i. (same i).up, λ i. table u.1.1.1.1 (same i).mem)
+orders : {a a' b c : Builder} {d e : Decision} {o : Ordains} → Decides a b d o → Decides a' c e o → (d ≡ e) × (built b ≡ built c)
+orders p q =
+    let same = p.made ∙⁻¹ q.made in (
+      λ i. record { advance = (same i).ordered.advance; other = (same i).ordered.other; run = (same i).ordered.run; cursor = (same i).ordered.cursor },
+      λ i. stood (same i).mem (same i).ordered.builder,
+    )
 
-pub one_entry : One put_entry_contract.ended put_entry.Reads.Post
-one_entry κs a x y u v p q = let same = p [] [] ∙⁻¹ q [] [] in (refl, λ i. ((same i).nums, ((same i).biases, u.1.1)))
+lowers : {a a' b c : Builder} {d e : DownMark} {o : Lowered} → Lowers a b d o → Lowers a' c e o → (d ≡ e) × (built b ≡ built c)
+lowers p q =
+    let same = p.made ∙⁻¹ q.made in
+    (λ i. record { depth = (same i).down.depth; row = (same i).down.row; cell = (same i).down.cell }, λ i. stood (same i).mem (same i).down.builder)
 
-pub one_halt : One halt_one_contract.ended halt_one.Reads.Post
-one_halt κs a x y u v p q = let same = p ∙⁻¹ q in (ap made same, λ i. table u.1.1.1.1 (same i).mem)
+raises : {a a' b c : Builder} {d e : UpMark} {o : Raised} → Raises a b d o → Raises a' c e o → (d ≡ e) × (built b ≡ built c)
+raises p q =
+    let same = p.made ∙⁻¹ q.made in (
+      λ i. record { depth = (same i).up.depth; row = (same i).up.row; slot = (same i).up.slot; cell = (same i).up.cell },
+      λ i. stood (same i).mem (same i).up.builder,
+    )
 
-pub one_untouched : One untouched_one_contract.ended untouched_one.Reads.Post
-one_untouched κs a x y u v p q = let same = p ∙⁻¹ q in (λ i. (same i).builder, λ i. table u.1.1.1.1 (same i).mem)
+-- ---- the passes
 
-pub one_next_running : One next_running_contract.ended next_running.Reads.Post
-one_next_running κs a x y u v p q = let same = p ∙⁻¹ q in (λ i. (same i).builder, λ i. table u.1.1.1.1 (same i).mem)
+pub one_ordered : OneLeft lower_ordered_contract.ended lower_ordered.Reads.Post Stood (λ κs a u. built u.0)
+one_ordered κs a x y u v p q = orders p q
 
-pub one_next_cursor : One next_cursor_contract.ended next_cursor.Reads.Post
-one_next_cursor κs a x y u v p q = let same = p ∙⁻¹ q in (λ i. (same i).builder, λ i. table u.1.1.1.1 (same i).mem)
+pub one_arbitration : OneLeft arbitrate_contract.ended arbitrate.Reads.Post Stood (λ κs a u. built u.0)
+one_arbitration κs a x y u v p q = raises p.0 q.0
 
-pub one_reach : One reach_contract.ended reach.Reads.Post
-one_reach κs a x y u v p q = let same = p ∙⁻¹ q in (λ i. (same i).down, λ i. table u.1.1.1.1 (same i).mem)
+pub one_entry : OneLeft put_entry_contract.ended put_entry.Reads.Post Stood (λ κs a u. built u.0)
+one_entry κs a x y u v p q = (refl, left p q)
 
-pub one_build : One build_contract.ended build.Reads.Post
-one_build κs a x y u v p q = let same = p ∙⁻¹ q in (λ i. (same i).builder, λ i. table u.1.1.1.1 (same i).mem)
+pub one_halt : OneLeft halt_one_contract.ended halt_one.Reads.Post Stood (λ κs a u. built u.0)
+one_halt κs a x y u v p q = decided p q
+
+pub one_untouched : OneLeft untouched_one_contract.ended untouched_one.Reads.Post Stood (λ κs a u. built u.0)
+one_untouched κs a x y u v p q = (refl, left p q)
+
+pub one_next_running : OneLeft next_running_contract.ended next_running.Reads.Post Stood (λ κs a u. built u.0)
+one_next_running κs a x y u v p q = (refl, left p q)
+
+pub one_next_cursor : OneLeft next_cursor_contract.ended next_cursor.Reads.Post Stood (λ κs a u. built u.0)
+one_next_cursor κs a x y u v p q = (refl, left p q)
+
+pub one_reach : OneLeft reach_contract.ended reach.Reads.Post Stood (λ κs a u. built u.0)
+one_reach κs a x y u v p q = lowers p q
+
+pub one_build : OneLeft build_contract.ended build.Reads.Post Stood (λ κs a u. built u.0)
+one_build κs a x y u v p q = (refl, left p q)

@@ -12,8 +12,6 @@
 --   tick_report: halts               halts_of, specs/Report
 --   validate: validate               validate_of, specs/Validate
 use mathlib.Core.Path.{refl, ◌∙⁻¹◌}
-use denote.Triple.Entry.{Args}
-use denote.Triple.Clauses.{Lasts}
 use Rattle.tick_lane.specs.Lane.{Lent}
 use Rattle.tick_check.proofs.is_circuit
 use Rattle.tick_check.specs.contracts.is_circuit as is_circuit_contract
@@ -37,7 +35,8 @@ use Rattle.tick_report.proofs.halts
 use Rattle.tick_report.specs.contracts.halts as halts_contract
 use Rattle.validate.proofs.validate
 use Rattle.validate.specs.contracts.validate as validate_contract
-use Rattle.unique.specs.One.{Lifetimes, One}
+use Rattle.tick_lane.specs.Loans.{lent_in}
+use Rattle.unique.specs.One.{One, OneLeft}
 
 pub one_check : One is_circuit_contract.ended is_circuit.Reads.Post
 one_check κs a x y u v p q = (p ∙⁻¹ q, refl)
@@ -49,18 +48,13 @@ pub one_tick_verdict : One tick_verdict_contract.ended tick_verdict.Reads.Post
 one_tick_verdict κs a x y u v p q = (p ∙⁻¹ q, refl)
 
 pub one_outs : One read_outs_contract.ended read_outs.Reads.Post
-one_outs κs a x y u v p q = (refl, λ i. ((p ∙⁻¹ q) i, u.1))
+one_outs κs a x y u v p q = (refl, λ i. (tt, (tt, ((p ∙⁻¹ q) i, tt))))
 
--- what a tick leaves: six parameters before these are not written
-abbrev pub left : (κs : Lifetimes tick_contract.ended) (a : Args (tick_contract.ended).signature κs) → Lent → Lasts tick_contract.ended κs a
-left κs a l =
-    (tt, (tt, (tt, (tt, (tt, (tt, (l.flags, (l.cursors, (l.values, (l.statuses, (l.halts, (l.edges, tt))))))))))))
+pub one_lane : OneLeft lane_contract.ended lane.Reads.Post Lent (λ κs a u. lent_in u.1.1.0)
+one_lane κs a x y u v p q = let same = p.1 ∙⁻¹ q.1 in (λ i. (same i).answer, λ i. (same i).left)
 
-pub one_lane : One lane_contract.ended lane.Reads.Post
-one_lane κs a x y u v p q = let same = p ∙⁻¹ q in (λ i. (same i).answer, λ i. left κs a (same i).left)
-
-pub one_tick : One tick_contract.ended tick.Reads.Post
-one_tick κs a x y u v p q = let same = p ∙⁻¹ q in (λ i. (same i).answer, λ i. left κs a (same i).left)
+pub one_tick : OneLeft tick_contract.ended tick.Reads.Post Lent (λ κs a u. lent_in u.1.1.0)
+one_tick κs a x y u v p q = let same = p.1 ∙⁻¹ q.1 in (λ i. (same i).answer, λ i. (same i).left)
 
 pub one_of_validated : One of_validated_contract.ended of_validated.Reads.Post
 one_of_validated κs a x y u v p q = (p ∙⁻¹ q, refl)

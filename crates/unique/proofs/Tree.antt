@@ -16,10 +16,14 @@ use Rattle.tree_record.proofs.refusal.Cause.kind
 use Rattle.tree_record.specs.contracts.refusal.Cause.kind as kind_contract
 use Rattle.tree.proofs.flatten
 use Rattle.tree.specs.contracts.flatten as flatten_contract
-use Rattle.unique.specs.One.{One}
+use Rattle.std.specs.Prelude.{Option, option_map}
+use contract.Lifetimes.{Lfts}
+use Rattle.tree_kinds.specs.Kinds.{Entry, shown}
+use Rattle.unique.specs.One.{One, OneSeen}
 
-pub one_row : One row_of_contract.ended row_of.Reads.Post
-one_row κs a x y u v p q = (p ∙⁻¹ q, refl)
+-- a row is seen by its name's bytes, wherever they lie
+pub one_row : (κ : Lfts 1) → OneSeen row_of_contract.ended (λ κs. row_of.Reads.Post κ) (λ κs. Option Entry) (λ κs x. option_map shown x)
+one_row κ κs a x y u v p q = (p ∙⁻¹ q, refl)
 
 pub one_record : One read_record_contract.ended read_record.Reads.Post
 one_record κs a x y u v p q = (p ∙⁻¹ q, refl)

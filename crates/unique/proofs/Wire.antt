@@ -1,12 +1,10 @@
 -- Forms, ops and their values: each contract permits one outcome.
 --
 --   wire: Form::constant        constant_form, specs/Terms
---   wire: coefs_of              look_up, specs/Terms
---   wire: wires_of              look_up, specs/Terms
+--   wire: part_of               look_up, specs/Terms, of any pool
 --   wire: op_slots              op_slots, specs/Storage
 --   wire: term_slots            term_slots, specs/Storage
 --   wire: storage_holds         storage_holds, specs/Storage
---   wire_pool: wide             the number itself
 --   wire_pool: form_at *        form_at, wire specs/Storage
 --   wire_pool: sum *            value_in, wire specs/Terms
 --   wire_pool: run_ops *        table_after, specs/Values
@@ -20,22 +18,18 @@
 --   wire_layers: depth          largest, specs/Layers
 use mathlib.Core.Path.{refl, ◌∙⁻¹◌}
 use mathlib.Core.List.{List}
-use Prim.Native.Nat.{ℕ}
-use lib.Ieee.{Float}
+use denote.Param.Laws.{Laws}
+use denote.RattleType.{RattleType}
 use Rattle.wire.proofs.Form.constant
 use Rattle.wire.specs.contracts.Form.constant as constant_contract
-use Rattle.wire.proofs.coefs_of
-use Rattle.wire.specs.contracts.coefs_of as coefs_of_contract
-use Rattle.wire.proofs.wires_of
-use Rattle.wire.specs.contracts.wires_of as wires_of_contract
+use Rattle.wire.proofs.part_of
+use Rattle.wire.specs.contracts.part_of as part_of_contract
 use Rattle.wire.proofs.op_slots
 use Rattle.wire.specs.contracts.op_slots as op_slots_contract
 use Rattle.wire.proofs.term_slots
 use Rattle.wire.specs.contracts.term_slots as term_slots_contract
 use Rattle.wire.proofs.storage_holds
 use Rattle.wire.specs.contracts.storage_holds as storage_holds_contract
-use Rattle.wire_pool.proofs.wide
-use Rattle.wire_pool.specs.contracts.wide as wide_contract
 use Rattle.wire_pool.proofs.form_at
 use Rattle.wire_pool.specs.contracts.form_at as form_at_contract
 use Rattle.wire_pool.proofs.sum
@@ -64,11 +58,8 @@ pub one_constant : One constant_contract.ended constant.Reads.Post
 one_constant κs a x y u v p q = (p ∙⁻¹ q, refl)
 
 -- the answer is a part of the lent pool, seen by its elements
-pub one_coefs_of : OneSeen coefs_of_contract.ended coefs_of.Reads.Post (λ κs. List Float) (λ κs x. x.now)
-one_coefs_of κs a x y u v p q = (p ∙⁻¹ q, refl)
-
-pub one_wires_of : OneSeen wires_of_contract.ended wires_of.Reads.Post (λ κs. List ℕ) (λ κs x. x.now)
-one_wires_of κs a x y u v p q = (p ∙⁻¹ q, refl)
+pub one_part_of : (T : RattleType) (laws : Laws T) → OneSeen (part_of_contract.ended T) (part_of.Reads.Post T laws) (λ κs. List T.Denot) (λ κs x. x.now)
+one_part_of T laws κs a x y u v p q = (p ∙⁻¹ q, refl)
 
 pub one_op_slots : One op_slots_contract.ended op_slots.Reads.Post
 one_op_slots κs a x y u v p q = (p ∙⁻¹ q, refl)
@@ -79,9 +70,6 @@ one_term_slots κs a x y u v p q = (p ∙⁻¹ q, refl)
 pub one_storage_holds : One storage_holds_contract.ended storage_holds.Reads.Post
 one_storage_holds κs a x y u v p q = (p ∙⁻¹ q, refl)
 
-pub one_wide : One wide_contract.ended wide.Reads.Post
-one_wide κs a x y u v p q = (p ∙⁻¹ q, refl)
-
 pub one_form_at : One form_at_contract.ended form_at.Reads.Post
 one_form_at κs a x y u v p q = (p ∙⁻¹ q, refl)
 
@@ -89,7 +77,7 @@ pub one_sum : One sum_contract.ended sum.Reads.Post
 one_sum κs a x y u v p q = (p ∙⁻¹ q, refl)
 
 pub one_run_ops : One run_ops_contract.ended run_ops.Reads.Post
-one_run_ops κs a x y u v p q = (refl, λ i. ((p ∙⁻¹ q) i, u.1))
+one_run_ops κs a x y u v p q = (refl, λ i. (tt, ((p ∙⁻¹ q) i, u.1.1)))
 
 pub one_is_readable : One is_readable_contract.ended is_readable.Reads.Post
 one_is_readable κs a x y u v p q = (p ∙⁻¹ q, refl)
@@ -107,10 +95,10 @@ pub one_op_value : One op_value_contract.ended op_value.Reads.Post
 one_op_value κs a x y u v p q = (p ∙⁻¹ q, refl)
 
 pub one_evaluation : One evaluate_contract.ended evaluate.Reads.Post
-one_evaluation κs a x y u v p q = (p.0 ∙⁻¹ q.0, λ i. (tt, (tt, (tt, (tt, (tt, ((p.1 ∙⁻¹ q.1) i, tt)))))))
+one_evaluation κs a x y u v p q = (p.0 ∙⁻¹ q.0, λ i. (tt, ((p.1 ∙⁻¹ q.1) i, tt)))
 
 pub one_layering : One layers_contract.ended layers.Reads.Post
-one_layering κs a x y u v p q = (p.0 ∙⁻¹ q.0, λ i. (tt, (tt, (tt, (tt, ((p.1 ∙⁻¹ q.1) i, tt))))))
+one_layering κs a x y u v p q = (p.0 ∙⁻¹ q.0, λ i. (tt, ((p.1 ∙⁻¹ q.1) i, tt)))
 
 pub one_depth : One depth_contract.ended depth.Reads.Post
 one_depth κs a x y u v p q = (p ∙⁻¹ q, refl)

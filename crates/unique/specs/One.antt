@@ -26,3 +26,9 @@ OneSeen T Post S see =
 -- the answers whole. Floats are those of lib.Ieee, which has one NaN: there is nothing to except.
 abbrev pub One : (T : Ended) → Contract T → Type 0
 One T Post = OneSeen T Post (Res T.signature) (λ κs x. x)
+
+-- The same where a struct of lent slices is lent: seen of its last value is what the slices hold, and its other fields. Where a slice lies is not seen.
+abbrev pub OneLeft : (T : Ended) → Contract T → (L : Type 0) → ((κs : Lifetimes T) (a : Args T.signature κs) → Lasts T κs a → L) → Type 0
+OneLeft T Post L left =
+    (κs : Lifetimes T) (a : Args T.signature κs) (x y : Res T.signature κs) (u v : Lasts T κs a)
+    → Post κs a x (at_exit T κs a u) → Post κs a y (at_exit T κs a v) → (x ≡ y) × (left κs a u ≡ left κs a v)

@@ -1,46 +1,57 @@
 // Validation of a lent value table against a lent circuit: `validate` of lower.rs, on anything.
 #![tactic(auto)]
 
-ghost use Rattle.std.specs.Prelude.{◌≡◌, ◌+◌, ◌*◌, ◌≤◌, length, take};
-ghost use Rattle.tick_check.specs.Check.{stored};
+ghost use Rattle.std.specs.Prelude.{◌≡◌, ◌+◌, ◌≤◌, length};
+ghost use Rattle.tick_check.specs.Check.{stored_in};
+ghost use Rattle.tick_check.specs.Checked.{Checked};
+ghost use Rattle.tick_lane.specs.Evaluate.{outs_of};
 ghost use Rattle.tick_verdict.specs.Verdict.{values_verdict};
 ghost use Rattle.validate.specs.Validate.{validate_of};
+ghost use Rattle.validate.specs.declared.ValidateError.TheVariants.{Broken};
 
-use tick_verdict::Validated;
-use wire::Counts;
+use tick_verdict::InvariantError;
+use wire::Circuit;
 
-// The verdict on the first n of some values.
-fn judge(room: &[f32], n: usize, nodes: usize, cursors: usize) -> Validated
-    requires { (n ≤ length room.now) × (n ≡ 6 * nodes + cursors) }
-    ensures { result ≡ values_verdict (take n room.now) nodes cursors }
+// Why a value table is refused.
+#[derive(Clone, Copy)]
+pub enum ValidateError {
+    BadCircuit,
+    ShortRoom,
+    Broken(InvariantError),
+}
+
+impl From<InvariantError> for ValidateError {
+    ghost from_gives = { λ broken e. e ≡ Broken broken };
+
+    fn from(broken: InvariantError) -> ValidateError {
+        ValidateError::Broken(broken)
+    }
+}
+
+// The verdict on the output values of a circuit that has passed its check, of which there are six a node and one a cursor.
+fn judge(circuit: &Circuit, table: &[f32]) -> Result<(), InvariantError>
+    requires checked { Checked (stored_in circuit.now) }
+    requires whole_table { circuit.now.counts.cells + circuit.now.counts.ops ≤ length table.now }
+    ensures { result ≡ values_verdict (outs_of (stored_in circuit.now) table.now) circuit.now.counts.nodes circuit.now.counts.cursors }
 {
-    let outs = &room[0..n];
-    tick_verdict::values_verdict(outs, nodes, cursors)
+    let counts = circuit.counts;
+    let mut room = [0.0; 896];
+    tick_lane::read_outs(circuit, table, &mut room);
+    let outs = &room[..6 * counts.nodes + counts.cursors];
+    tick_verdict::values_verdict(outs, counts.nodes, counts.cursors)
 }
 
 // Whether the values of the output forms against this table are what they must be: which case is broken, where, and by which float.
-pub fn validate(
-    counts: Counts,
-    nums: &[u32],
-    biases: &[f32],
-    wires: &[u32],
-    coefs: &[f32],
-    table: &[f32],
-) -> Validated
-    ensures { result ≡ validate_of (stored counts nums.now biases.now wires.now coefs.now) table.now }
+#[tactic(auto, unfolding(crate::specs::Validate::validate_of))]
+pub fn validate(circuit: &Circuit, table: &[f32]) -> Result<(), ValidateError>
+    ensures { result ≡ validate_of (stored_in circuit.now) table.now }
 {
-    let good = tick_check::is_circuit(counts, nums, biases, wires, coefs);
-    if !good {
-        return Validated::BadCircuit;
+    if !tick_check::is_circuit(circuit) {
+        return Err(ValidateError::BadCircuit);
     }
-    let nodes = counts.nodes;
-    let cursors = counts.cursors;
-    let cells = counts.cells;
-    let ops = counts.ops;
-    if table.len() < cells + ops {
-        return Validated::ShortRoom;
+    if table.len() < circuit.counts.cells + circuit.counts.ops {
+        return Err(ValidateError::ShortRoom);
     }
-    let mut room = [0.0f32; 896];
-    tick_lane::read_outs(&mut room, counts, nums, biases, wires, coefs, table);
-    judge(&room, 6 * nodes + cursors, nodes, cursors)
+    judge(circuit, table)?;
+    Ok(())
 }

@@ -1,14 +1,11 @@
--- Parts of the pools, taken apart at their first term; what a look-up gives; forms with equal terms mean the same.
+-- Parts of the pools, taken apart at their first term.
 use mathlib.Core.Path.{◌≡◌}
 use mathlib.Core.List.{List, [], ◌∷◌}
 use Prim.Native.Nat.{ℕ, suc, ◌+◌, ◌-◌, ◌≤◌, ◌<◌}
 use native.Mathlib.Numerals.{add-one}
 use native.Mathlib.Omega.{arith}
-use borrow.Author.Tests.{le-leb, lt-leb}
-use lib.ListN.{length, take, drop}
 use lib.Ieee.{Float}
-use Rattle.wire.specs.declared.Form.{Form}
-use Rattle.wire.specs.Terms.{term_at, part, look_up}
+use Rattle.wire.specs.Terms.{term_at, part}
 use Rattle.lists.proofs.Entries.{each_none, each_cons}
 
 module _ (ws : List ℕ) (cs : List Float) where
@@ -30,16 +27,3 @@ module _ (ws : List ℕ) (cs : List Float) where
   part_end i e h =
       let q : e - i ≡ 0 = omega arith in
       rw q (part_none i)
-
--- ---- a look-up
-
-module _ {A : Type 0} (f : Form) (pool : List A) where
-  pub look_past : length pool < f.first + f.len → [] ≡ look_up f pool
-  unfolding look_up
-  look_past h = rw (lt-leb (f.first + f.len) (length pool) h)
-
-  pub look_inside : f.first + f.len ≤ length pool → take (f.first + f.len - f.first) (drop f.first pool) ≡ look_up f pool
-  unfolding look_up
-  look_inside h =
-      let q : f.first + f.len - f.first ≡ f.len = omega arith in
-      rw (le-leb (f.first + f.len) (length pool) h, q)

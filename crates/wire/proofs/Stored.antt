@@ -1,18 +1,16 @@
 -- What storage that holds its counts tells a reader, and the lists of a circuit entry by entry.
 use mathlib.Core.Path.{◌≡◌, sym, ◌∙◌}
 use mathlib.Core.List.{List, []}
-use mathlib.Core.Bool.{true, ◌&&◌}
+use mathlib.Core.Bool.{true}
 use Prim.Native.Nat.{ℕ, ◌+◌, ◌<◌}
 use native.Mathlib.Omega.{arith}
-use borrow.Author.Tests.{le-leb, leb-true}
+use Rattle.std.proofs.lemmas.Bool.Decides.{nat_tests}
 use lib.ListN.{length, get_or}
-use lib.Dec.{leb}
 use lib.Ieee.{Float, nan}
 use lib.Seq.{ext_get_or}
 use Rattle.wire.specs.declared.Counts.{Counts}
 use Rattle.wire.specs.Held.{Held}
-use Rattle.wire.specs.Storage.{ops_from, op_biases_from, op_slots, term_slots, storage_holds, op_at, output_at, output_count, numbers_from, circuit_of, leaves_from, cursors_from, report_from, Circuit, neither}
-use Rattle.lists.proofs.Tests.{both_left, both_right}
+use Rattle.wire.specs.Storage.{storage_holds, op_at, output_at, output_count, numbers_from, circuit_of, leaves_from, cursors_from, report_from, Circuit, neither}
 use Rattle.lists.proofs.Entries.{each_length, each_get_d, each_is}
 
 -- ---- slots
@@ -20,26 +18,11 @@ use Rattle.lists.proofs.Entries.{each_length, each_get_d, each_is}
 pub held : (n : Counts) (nums biases wires coefs : ℕ) → storage_holds n nums biases wires coefs ≡ true → Held n nums biases wires coefs
 unfolding storage_holds
 held n nums biases wires coefs e =
-    let rest = leb n.ops (op_slots nums biases) && leb n.terms (term_slots wires coefs) in
-    let a = both_left (leb ops_from nums) (leb op_biases_from biases && rest) e in
-    let e' = both_right (leb ops_from nums) (leb op_biases_from biases && rest) e in
-    let b = both_left (leb op_biases_from biases) rest e' in
-    let e'' = both_right (leb op_biases_from biases) rest e' in
-    let f = leb-true ops_from nums a in
-    let g = leb-true op_biases_from biases b in
-    let h = leb-true n.ops (op_slots nums biases) (both_left (leb n.ops (op_slots nums biases)) (leb n.terms (term_slots wires coefs)) e'') in
-    let k = leb-true n.terms (term_slots wires coefs) (both_right (leb n.ops (op_slots nums biases)) (leb n.terms (term_slots wires coefs)) e'') in
-    record { in_nums = omega arith; in_biases = omega arith; in_wires = omega arith; in_coefs = omega arith }
+    record { in_nums = grind (arith, nat_tests); in_biases = grind (arith, nat_tests); in_wires = grind (arith, nat_tests); in_coefs = grind (arith, nat_tests) }
 
 pub holds : (n : Counts) (nums biases wires coefs : ℕ) → Held n nums biases wires coefs → storage_holds n nums biases wires coefs ≡ true
 unfolding storage_holds
-holds n nums biases wires coefs h =
-    rw (
-      le-leb ops_from nums (omega arith),
-      le-leb op_biases_from biases (omega arith),
-      le-leb n.ops (op_slots nums biases) (omega arith),
-      le-leb n.terms (term_slots wires coefs) (omega arith),
-    )
+holds n nums biases wires coefs h = grind (arith, nat_tests)
 
 -- ---- the lists of a circuit
 

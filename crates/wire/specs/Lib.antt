@@ -1,3 +1,5 @@
+pub mod Circuit
 pub mod Held
+pub mod Lending
 pub mod Storage
 pub mod Terms

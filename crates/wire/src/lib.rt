@@ -1,11 +1,15 @@
 // Affine forms over two lent pools, a pool of wires and one of coefficients (wire.rs), and a circuit in lent storage.
 #![tactic(auto)]
 
+mod storage;
+
 ghost use Rattle.std.specs.Prelude.{◌≡◌};
 ghost use Rattle.wire.specs.Terms.{constant_form, look_up};
-ghost use Rattle.wire.specs.Storage.{op_slots, term_slots, storage_holds};
+ghost use Rattle.wire.specs.Storage.{op_slots, term_slots};
+ghost use Rattle.wire.specs.Circuit.{storage_holds_in};
 
 use index::Wire;
+pub use storage::Storage;
 
 // "A form is a struct with an f32 bias and the range of its terms": its terms are those of the pools from first on, len of them.
 #[derive(Clone, Copy)]
@@ -35,41 +39,27 @@ impl Form {
     }
 }
 
-// The form's part of the pool of coefficients, or an empty part where it points past the pool.
-pub fn coefs_of(f: Form, coefs: &[f32]) -> &[f32]
-    ensures { result.now ≡ look_up f coefs.now }
-{
-    let first = f.first;
-    let len = f.len;
-    if coefs.len() < first {
-        return &coefs[0..0];
-    }
-    if coefs.len() - first < len {
-        return &coefs[0..0];
-    }
-    let end = first + len;
-    &coefs[first..end]
+// The pools that forms point into. Both have a place for each term.
+#[derive(Clone, Copy)]
+pub struct Pools<'a> {
+    pub wires: &'a [u32],
+    pub coefs: &'a [f32],
 }
 
-// The form's part of the pool of wires, likewise.
-pub fn wires_of(f: Form, wires: &[u32]) -> &[u32]
-    ensures { result.now ≡ look_up f wires.now }
+// The form's part of a pool, or an empty part where it points past it.
+#[tactic(auto, unfolding(crate::specs::Terms::look_up))]
+pub fn part_of<'a, T>(f: Form, pool: &'a [T]) -> &'a [T]
+    ensures { result.now ≡ look_up f pool.now }
 {
-    let first = f.first;
-    let len = f.len;
-    if wires.len() < first {
-        return &wires[0..0];
+    match pool.get(f.first..) {
+        Some(rest) => rest.get(..f.len).unwrap_or(&[]),
+        None => &[],
     }
-    if wires.len() - first < len {
-        return &wires[0..0];
-    }
-    let end = first + len;
-    &wires[first..end]
 }
 
 // How much of each sort a circuit has in use.
 #[repr(C)]
-#[derive(Clone, Copy)]
+#[derive(Clone, Copy, Default)]
 pub struct Counts {
     pub nodes: usize,
     pub cursors: usize,
@@ -111,6 +101,15 @@ impl Biases {
     pub const PER_OP: usize = 2;
 }
 
+// A circuit in lent storage.
+#[derive(Clone, Copy)]
+pub struct Circuit<'a> {
+    pub counts: Counts,
+    pub nums: &'a [u32],
+    pub biases: &'a [f32],
+    pub pools: Pools<'a>,
+}
+
 // An instruction, as it stands in storage.
 #[derive(Clone, Copy)]
 pub enum Op {
@@ -118,8 +117,6 @@ pub enum Op {
     Affine(Form),
     // left × max(0, gate).
     Reglu { left: Form, gate: Form },
-    // A slot of neither kind, or no slot.
-    Neither,
 }
 
 impl Op {
@@ -132,30 +129,28 @@ impl Op {
 pub fn op_slots(nums: usize, biases: usize) -> usize
     ensures { result ≡ op_slots nums biases }
 {
-    if nums < Nums::OPS {
-        return 0;
-    }
-    if biases < Biases::OPS {
-        return 0;
-    }
-    let a = (nums - Nums::OPS) / Nums::PER_OP;
-    let b = (biases - Biases::OPS) / Biases::PER_OP;
-    if a < b { a } else { b }
+    let in_nums = nums.saturating_sub(Nums::OPS) / Nums::PER_OP;
+    let in_biases = biases.saturating_sub(Biases::OPS) / Biases::PER_OP;
+    in_nums.min(in_biases)
 }
 
 // How many term slots pools of these lengths hold.
 pub fn term_slots(wires: usize, coefs: usize) -> usize
     ensures { result ≡ term_slots wires coefs }
 {
-    if wires < coefs { wires } else { coefs }
+    wires.min(coefs)
 }
 
-// Whether storage of these lengths holds the counts.
-pub fn storage_holds(counts: Counts, nums: usize, biases: usize, wires: usize, coefs: usize) -> bool
-    ensures { result ≡ storage_holds counts nums biases wires coefs }
+// Whether the circuit's storage holds its counts.
+#[tactic(auto, unfolding(crate::specs::Storage::storage_holds))]
+pub fn storage_holds(circuit: &Circuit) -> bool
+    ensures { result ≡ storage_holds_in circuit.now }
 {
-    let ops = op_slots(nums, biases);
-    let terms = term_slots(wires, coefs);
-    (Nums::OPS <= nums)
-        & ((Biases::OPS <= biases) & ((counts.ops <= ops) & (counts.terms <= terms)))
+    let nums = circuit.nums.len();
+    let biases = circuit.biases.len();
+    let Pools { wires, coefs } = circuit.pools;
+    Nums::OPS <= nums
+        && Biases::OPS <= biases
+        && circuit.counts.ops <= op_slots(nums, biases)
+        && circuit.counts.terms <= term_slots(wires.len(), coefs.len())
 }

@@ -1,15 +1,15 @@
 // Values, evaluation and layers for callers in C and Rust: numbers and slices in, a document 01 number out, 0 where nothing is refused.
+// C gives the parts of a circuit one by one: no struct of slices crosses that boundary.
 #![tactic(auto)]
 
 ghost use Rattle.std.specs.Prelude.{◌≡◌, length};
 ghost use Rattle.wire_read.specs.Reading.{stored_op};
 ghost use Rattle.wire_eval.specs.Evaluation.{value_of, op_value_of, evaluated, table_left};
 ghost use Rattle.wire_layers.specs.Layers.{layered, layers_left, layered_number, largest};
-ghost use Rattle.wire_c.specs.Answers.{answer_of, ended_of};
+ghost use Rattle.wire_c.specs.Answers.{answer_of, form_answer, ended_of};
 
-use wire::{Counts, Form};
-use wire_eval::{Evaluated, Valued};
-use wire_layers::Layered;
+use wire::{Circuit, Counts, Form, Pools};
+use wire_eval::{EvalError, ValueError};
 
 // A number, and the value where the number is 0.
 #[repr(C)]
@@ -27,29 +27,29 @@ pub struct Ended {
     pub op: usize,
 }
 
-fn answer_of(v: Valued) -> Answer
-    ensures { result ≡ answer_of v }
+fn answer_of(value: Result<f32, ValueError>) -> Answer
+    ensures { result ≡ answer_of value }
 {
-    match v {
-        Valued::Value(value) => Answer { number: 0, value },
-        Valued::Short => Answer {
+    match value {
+        Ok(value) => Answer { number: 0, value },
+        Err(ValueError::Short) => Answer {
             number: 14,
             value: 0.0,
         },
-        Valued::BadOp => Answer {
+        Err(ValueError::BadOp) => Answer {
             number: 17,
             value: 0.0,
         },
     }
 }
 
-fn ended_of(e: Evaluated) -> Ended
-    ensures { result ≡ ended_of e }
+fn ended_of(done: Result<(), EvalError>) -> Ended
+    ensures { result ≡ ended_of done }
 {
-    match e {
-        Evaluated::Done => Ended { number: 0, op: 0 },
-        Evaluated::Short => Ended { number: 14, op: 0 },
-        Evaluated::BadOp(op) => Ended { number: 17, op },
+    match done {
+        Ok(()) => Ended { number: 0, op: 0 },
+        Err(EvalError::Short) => Ended { number: 14, op: 0 },
+        Err(EvalError::BadOp(op)) => Ended { number: 17, op },
     }
 }
 
@@ -62,12 +62,14 @@ pub fn palthengi_value(
     coefs: &[f32],
     table: &[f32],
 ) -> Answer
-    ensures { result ≡ answer_of (value_of wires.now coefs.now table.now (record { bias = bias; first = first; len = len })) }
+    ensures { result ≡ form_answer (value_of wires.now coefs.now table.now (record { bias = bias; first = first; len = len })) }
 {
-    answer_of(wire_eval::value(Form { bias, first, len }, wires, coefs, table))
+    let form = Form { bias, first, len };
+    let value = wire_eval::value(form, Pools { wires, coefs }, table);
+    answer_of(value.ok_or(ValueError::Short))
 }
 
-// The value of op i of a circuit in storage.
+// The value of op i of a circuit in storage. What is in use does not matter, so C gives no counts.
 pub fn palthengi_op_value(
     nums: &[u32],
     biases: &[f32],
@@ -78,8 +80,14 @@ pub fn palthengi_op_value(
 ) -> Answer
     ensures { result ≡ answer_of (op_value_of wires.now coefs.now table.now (stored_op nums.now biases.now i)) }
 {
-    let op = wire_read::op_at(nums, biases, i);
-    answer_of(wire_eval::op_value(op, wires, coefs, table))
+    let circuit = Circuit {
+        counts: Counts::default(),
+        nums,
+        biases,
+        pools: Pools { wires, coefs },
+    };
+    let op = wire_read::op_at(&circuit, i);
+    answer_of(wire_eval::op_value(op, circuit.pools, table))
 }
 
 // All ops, into a table whose first places hold the cells.
@@ -94,11 +102,16 @@ pub fn palthengi_evaluate(
     ensures value { result ≡ ended_of (evaluated counts nums.now biases.now wires.now coefs.now (length table.old)) }
     ensures table_after { table.new ≡ table_left counts nums.now biases.now wires.now coefs.now table.old }
 {
-    let e = wire_eval::evaluate(counts, nums, biases, wires, coefs, table);
-    ended_of(e)
+    let circuit = Circuit {
+        counts,
+        nums,
+        biases,
+        pools: Pools { wires, coefs },
+    };
+    ended_of(wire_eval::evaluate(&circuit, table))
 }
 
-// The layer of every value.
+// The layer of every value. No layer depends on a coefficient, so C gives none.
 pub fn palthengi_layers(
     counts: Counts,
     nums: &[u32],
@@ -109,10 +122,15 @@ pub fn palthengi_layers(
     ensures value { result ≡ layered_number (layered counts (length out.old)) }
     ensures out_after { out.new ≡ layers_left counts nums.now biases.now wires.now out.old }
 {
-    let l = wire_layers::layers(counts, nums, biases, wires, out);
-    match l {
-        Layered::Done => 0,
-        Layered::Short => 14,
+    let circuit = Circuit {
+        counts,
+        nums,
+        biases,
+        pools: Pools { wires, coefs: &[] },
+    };
+    match wire_layers::layers(&circuit, out) {
+        Ok(()) => 0,
+        Err(_) => 14,
     }
 }
 

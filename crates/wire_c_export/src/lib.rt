@@ -5,7 +5,7 @@ ghost use Rattle.std.specs.Prelude.{◌≡◌, length};
 ghost use Rattle.wire_read.specs.Reading.{stored_op};
 ghost use Rattle.wire_eval.specs.Evaluation.{value_of, op_value_of, evaluated, table_left};
 ghost use Rattle.wire_layers.specs.Layers.{layered, layers_left, layered_number, largest};
-ghost use Rattle.wire_c.specs.Answers.{answer_of, ended_of};
+ghost use Rattle.wire_c.specs.Answers.{answer_of, form_answer, ended_of};
 
 use wire::Counts;
 use wire_c::{Answer, Ended};
@@ -19,7 +19,7 @@ pub extern "C" fn palthengi_value(
     coefs: &[f32],
     table: &[f32],
 ) -> Answer
-    ensures { result ≡ answer_of (value_of wires.now coefs.now table.now (record { bias = bias; first = first; len = len })) }
+    ensures { result ≡ form_answer (value_of wires.now coefs.now table.now (record { bias = bias; first = first; len = len })) }
 {
     wire_c::palthengi_value(bias, first, len, wires, coefs, table)
 }

@@ -2,108 +2,94 @@
 #![tactic(auto)]
 
 ghost use Rattle.std.specs.Prelude.{◌≡◌, ◌+◌, ◌<◌, length};
-ghost use Rattle.wire_eval.specs.Evaluation.{value_of, op_value_of, first_bad, evaluated, table_left};
+ghost use Rattle.wire_eval.specs.Evaluation.{value_of, op_value_of, can_value_in, first_bad_in, evaluated_in, table_left_in};
 
-use wire::{Counts, Form, Op};
+use wire::{Circuit, Counts, Form, Op, Pools};
 
-// The value asked for, or why there is none.
+// Why an op has no value.
 #[derive(Clone, Copy)]
-pub enum Valued {
-    Value(f32),
-    // The form points past a pool, or reads past the table.
+pub enum ValueError {
+    // A form of it points past a pool, or reads past the table.
     Short,
-    // The op is of neither kind.
+    // There is no such slot, or it is of neither kind.
     BadOp,
 }
 
-// How evaluating all ops ended.
+// Why evaluating stopped.
 #[derive(Clone, Copy)]
-pub enum Evaluated {
-    Done,
+pub enum EvalError {
     // The table has no place for all cells and ops.
     Short,
     // The first op with no value: there is no such slot, it is of neither kind, a form of it points past a pool or reads a value not before its own.
     BadOp(usize),
 }
 
-// A form's value against a table.
-pub fn value(f: Form, wires: &[u32], coefs: &[f32], table: &[f32]) -> Valued
-    ensures { result ≡ value_of wires.now coefs.now table.now f }
+// A form's value against a table, if the form lies in the pools and reads inside the table.
+#[tactic(auto, using(wire_read::proofs::Reading::may_read), unfolding(crate::specs::Evaluation::value_of))]
+pub fn value(f: Form, pools: Pools, table: &[f32]) -> Option<f32>
+    ensures { result ≡ value_of pools.entry.wires.now pools.entry.coefs.now table.now f }
 {
-    if wire_read::is_readable(f, wires, coefs, table.len()) {
-        return Valued::Value(wire_pool::sum(f, wires, coefs, table));
+    if !wire_read::is_readable(f, pools, table.len()) {
+        return None;
     }
-    Valued::Short
+    Some(wire_pool::sum(f, pools, table))
 }
 
 // An op's value against a table.
-pub fn op_value(op: Op, wires: &[u32], coefs: &[f32], table: &[f32]) -> Valued
-    ensures { result ≡ op_value_of wires.now coefs.now table.now op }
+#[tactic(auto, unfolding(crate::specs::Evaluation::op_value_of, crate::specs::Evaluation::gated))]
+pub fn op_value(op: Option<Op>, pools: Pools, table: &[f32]) -> Result<f32, ValueError>
+    ensures { result ≡ op_value_of pools.entry.wires.now pools.entry.coefs.now table.now op }
 {
-    match op {
-        Op::Affine(form) => value(form, wires, coefs, table),
+    match op.ok_or(ValueError::BadOp)? {
+        Op::Affine(form) => value(form, pools, table).ok_or(ValueError::Short),
         Op::Reglu { left, gate } => {
-            let l = value(left, wires, coefs, table);
-            let Valued::Value(x) = l else {
-                return l;
-            };
-            let g = value(gate, wires, coefs, table);
-            let Valued::Value(y) = g else {
-                return g;
-            };
-            Valued::Value(x * exact::positive_part(y))
+            let left = value(left, pools, table).ok_or(ValueError::Short)?;
+            let gate = value(gate, pools, table).ok_or(ValueError::Short)?;
+            Ok(left * exact::positive_part(gate))
         }
-        Op::Neither => Valued::BadOp,
+    }
+}
+
+// Whether op i can be valued.
+#[tactic(auto, unfolding(crate::specs::Evaluation::can_value, wire_read::specs::Reading::slot_reads))]
+fn can_value(circuit: &Circuit, i: usize) -> bool
+    requires { circuit.now.counts.cells + i < 18446744073709551616 }
+    ensures { result ≡ can_value_in circuit.now i }
+{
+    match wire_read::op_at(circuit, i) {
+        Some(op) => wire_read::op_is_readable(op, circuit.pools, circuit.counts.cells + i),
+        None => false,
     }
 }
 
 // The first op that cannot be valued, or the number of ops where each can.
-fn first_bad(
-    nums: &[u32],
-    biases: &[f32],
-    wires: &[u32],
-    coefs: &[f32],
-    cells: usize,
-    ops: usize,
-) -> usize
-    requires { cells + ops < 18446744073709551616 }
-    ensures { result ≡ first_bad nums.now biases.now wires.now coefs.now cells ops }
+#[tactic(auto, using(crate::proofs::Running::first_found), unfolding(crate::specs::Evaluation::first_bad))]
+fn first_bad(circuit: &Circuit) -> usize
+    requires { circuit.now.counts.cells + circuit.now.counts.ops < 18446744073709551616 }
+    ensures { result ≡ first_bad_in circuit.now }
 {
-    let mut i = 0usize;
-    while i < ops {
-        let op = wire_read::op_at(nums, biases, i);
-        if !wire_read::op_is_readable(op, wires, coefs, cells + i) {
+    for i in 0..circuit.counts.ops {
+        if !can_value(circuit, i) {
             return i;
         }
-        i += 1;
     }
-    ops
+    circuit.counts.ops
 }
 
 // All ops, into a table whose first places hold the cells.
-pub fn evaluate(
-    counts: Counts,
-    nums: &[u32],
-    biases: &[f32],
-    wires: &[u32],
-    coefs: &[f32],
-    table: &mut [f32],
-) -> Evaluated
-    ensures value { result ≡ evaluated counts nums.now biases.now wires.now coefs.now (length table.old) }
-    ensures table_after { table.new ≡ table_left counts nums.now biases.now wires.now coefs.now table.old }
+#[tactic(auto, using(crate::proofs::Running::bad_high), unfolding(crate::specs::Evaluation::evaluated, crate::specs::Evaluation::table_left))]
+pub fn evaluate(circuit: &Circuit, table: &mut [f32]) -> Result<(), EvalError>
+    ensures value { result ≡ evaluated_in circuit.now (length table.old) }
+    ensures table_after { table.new ≡ table_left_in circuit.now table.old }
 {
-    let cells = counts.cells;
-    let ops = counts.ops;
-    if table.len() < cells {
-        return Evaluated::Short;
+    let Counts { cells, ops, .. } = circuit.counts;
+    if table.len() < cells || table.len() - cells < ops {
+        return Err(EvalError::Short);
     }
-    if table.len() - cells < ops {
-        return Evaluated::Short;
-    }
-    let good = first_bad(nums, biases, wires, coefs, cells, ops);
-    wire_pool::run_ops(table, nums, biases, wires, coefs, cells, good);
+    let good = first_bad(circuit);
+    wire_pool::run_ops(circuit, table, good);
     if good < ops {
-        return Evaluated::BadOp(good);
+        return Err(EvalError::BadOp(good));
     }
-    Evaluated::Done
+    Ok(())
 }

@@ -1,2 +1,2 @@
-pub mod Deep
+pub mod Largest
 pub mod Low

@@ -1,146 +1,80 @@
 // The layer of every value of a circuit, and its depth: wire.rs's layers and depth, into a lent slice.
 #![tactic(auto)]
 
-ghost use Rattle.std.specs.Prelude.{◌≡◌, ◌++◌, ◌≤◌, length, take, drop, replicate};
-ghost use Rattle.wire_layers.specs.Layers.{largest, layer_of, form_depth, op_depth, one_past, layered, layers_left};
+ghost use Rattle.std.specs.Prelude.{◌≡◌, ◌+◌, length};
+ghost use Rattle.wire_layers.specs.Layers.{largest, layer_of, form_depth, op_depth, layered_in, layers_in, layers_left_in};
 
 use index::Wire;
-use wire::{Counts, Form, Op};
+use wire::{Circuit, Counts, Form, Op};
 
-// How laying out ended.
+// The slice has no place for all cells and ops.
 #[derive(Clone, Copy)]
-pub enum Layered {
-    Done,
-    // The slice has no place for all cells and ops.
-    Short,
-}
-
-// A layer: the cells are in layer 0, an op is one past the deepest value that it reads.
-#[derive(Clone, Copy)]
-pub struct Layer {}
-
-impl Layer {
-    // The most that a layer can be: one that a circuit of fewer than 2^32 ops never has to be cut to.
-    pub const MOST: u32 = 4294967295;
-}
-
-fn one_past(layer: u32) -> u32
-    ensures { result ≡ one_past layer }
-{
-    if layer < Layer::MOST {
-        return layer + 1;
-    }
-    Layer::MOST
-}
+pub struct ShortRoom;
 
 // The layer of a wire, 0 where it is past the values.
-fn layer_of(layers: &[u32], values: usize, wire: Wire) -> u32
-    ensures { result ≡ layer_of (take values layers.now) wire.0 }
+#[tactic(auto, unfolding(crate::specs::Layers::layer_of))]
+fn layer_of(layers: &[u32], wire: Wire) -> u32
+    ensures { result ≡ layer_of layers.now wire.0 }
 {
-    let w = wire.position();
-    if w < values {
-        if w < layers.len() {
-            return layers[w];
-        }
-    }
-    0
+    layers.get(wire.position()).copied().unwrap_or(0)
 }
 
-// The deepest layer of the wires of a part of the pool.
-fn part_depth(part: &[u32], layers: &[u32], values: usize) -> u32
-    ensures { result ≡ largest (layer_of (take values layers.now)) part.now }
+// The deepest layer of the wires that a form's look-up gives.
+fn form_depth(f: Form, wires: &[u32], layers: &[u32]) -> u32
+    ensures { result ≡ form_depth wires.now layers.now f }
 {
-    let mut best = 0u32;
-    let mut i = 0usize;
-    while i < part.len() {
-        let wire = part[i];
-        let layer = layer_of(layers, values, Wire(wire));
-        if best < layer {
-            best = layer;
-        }
-        i += 1;
-    }
-    best
+    wire::part_of(f, wires)
+        .iter()
+        .map(|wire| layer_of(layers, Wire(*wire)))
+        .max()
+        .unwrap_or(0)
 }
 
-fn form_depth(f: Form, wires: &[u32], layers: &[u32], values: usize) -> u32
-    ensures { result ≡ form_depth wires.now (take values layers.now) f }
-{
-    let part = wire::wires_of(f, wires);
-    part_depth(part, layers, values)
-}
-
-fn op_depth(op: Op, wires: &[u32], layers: &[u32], values: usize) -> u32
-    ensures { result ≡ op_depth wires.now (take values layers.now) op }
+#[tactic(auto, unfolding(crate::specs::Layers::op_depth))]
+fn op_depth(op: Option<Op>, wires: &[u32], layers: &[u32]) -> u32
+    ensures { result ≡ op_depth wires.now layers.now op }
 {
     match op {
-        Op::Affine(form) => form_depth(form, wires, layers, values),
-        Op::Reglu { left, gate } => {
-            let l = form_depth(left, wires, layers, values);
-            let g = form_depth(gate, wires, layers, values);
-            if l < g {
-                return g;
-            }
-            l
+        Some(Op::Affine(form)) => form_depth(form, wires, layers),
+        Some(Op::Reglu { left, gate }) => {
+            form_depth(left, wires, layers).max(form_depth(gate, wires, layers))
         }
-        Op::Neither => 0,
+        None => 0,
     }
 }
 
-fn clear(layers: &mut [u32], values: usize)
-    requires { values ≤ length layers.old }
-    ensures { layers.new ≡ replicate values 0 ++ drop values layers.old }
+// The layers, into a slice with a place for each value. An op is one past the deepest value that it reads, as far as a u32 goes; with fewer than
+// 2^32 ops no layer is cut.
+#[tactic(auto, unfolding(crate::specs::Layers::layers_after))]
+fn lay_out(circuit: &Circuit, layers: &mut [u32])
+    requires { length layers.old ≡ circuit.now.counts.cells + circuit.now.counts.ops }
+    ensures { layers.new ≡ layers_in circuit.now circuit.now.counts.ops }
 {
-    let mut i = 0usize;
-    while i < values {
-        layers[i] = 0;
-        i += 1;
+    layers.fill(0);
+    for i in 0..circuit.counts.ops {
+        let op = wire_read::op_at(circuit, i);
+        let depth = op_depth(op, circuit.pools.wires, layers);
+        layers[circuit.counts.cells + i] = depth.saturating_add(1);
     }
 }
 
-// The layer of every value, cells first.
-pub fn layers(
-    counts: Counts,
-    nums: &[u32],
-    biases: &[f32],
-    wires: &[u32],
-    out: &mut [u32],
-) -> Layered
-    ensures value { result ≡ layered counts (length out.old) }
-    ensures out_after { out.new ≡ layers_left counts nums.now biases.now wires.now out.old }
+// The layer of every value, cells first. It depends on no coefficient.
+#[tactic(auto, unfolding(crate::specs::Layers::layered, crate::specs::Layers::layers_left))]
+pub fn layers(circuit: &Circuit, out: &mut [u32]) -> Result<(), ShortRoom>
+    ensures value { result ≡ layered_in circuit.now (length out.old) }
+    ensures out_after { out.new ≡ layers_left_in circuit.now out.old }
 {
-    let cells = counts.cells;
-    let ops = counts.ops;
-    if out.len() < cells {
-        return Layered::Short;
+    let Counts { cells, ops, .. } = circuit.counts;
+    if out.len() < cells || out.len() - cells < ops {
+        return Err(ShortRoom);
     }
-    if out.len() - cells < ops {
-        return Layered::Short;
-    }
-    let values = cells + ops;
-    clear(out, values);
-    let mut i = 0usize;
-    while i < ops {
-        let op = wire_read::op_at(nums, biases, i);
-        let layer = one_past(op_depth(op, wires, out, values));
-        out[cells + i] = layer;
-        i += 1;
-    }
-    Layered::Done
+    lay_out(circuit, &mut out[..cells + ops]);
+    Ok(())
 }
 
 // How many layers deep a circuit is, from the layers of its values: the largest.
 pub fn depth(layers: &[u32]) -> u32
     ensures { result ≡ largest (λ layer. layer) layers.now }
 {
-    let mut most = 0u32;
-    let mut i = 0usize;
-    while i < layers.len() {
-        let layer = layers[i];
-        if most < layer {
-            most = layer;
-        }
-        i += 1;
-    }
-    most
+    layers.iter().copied().max().unwrap_or(0)
 }

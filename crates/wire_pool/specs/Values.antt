@@ -4,6 +4,8 @@ use Rattle.std.specs.Float.{nan, binary32}
 use Rattle.std.specs.Float.Ieee.{mul}
 use Rattle.exact.specs.Tests.{relu}
 use Rattle.wire.specs.declared.Form.{Form}
+use Rattle.wire.specs.declared.Pools.{Pools}
+use Rattle.wire.specs.declared.Circuit.{Circuit}
 use Rattle.wire.specs.Terms.{value_in}
 use Rattle.wire.specs.Storage.{op_slots, affine_kind, reglu_kind, kind_at, left_form, gate_form, Op, affine, reglu, neither}
 
@@ -25,6 +27,10 @@ pub record Readable (wires : List ℕ) (coefs : List Float) (n : ℕ) (f : Form)
   pub in_coefs : f.first + f.len ≤ length coefs
   pub reads : (k : ℕ) → f.first ≤ k → k < f.first + f.len → get_or wires k 0 < n
 
+-- the same, of lent pools
+abbrev pub ReadableIn : Pools → ℕ → Form → Type 0
+ReadableIn p n f = Readable p.wires.now p.coefs.now n f
+
 -- op i has a slot, is of one of the two kinds, and the forms of its kind can be read
 pub record OpReadable (nums : List ℕ) (biases : List Float) (wires : List ℕ) (coefs : List Float) (n i : ℕ) : Type 0 where
   pub slot : i < op_slots (length nums) (length biases)
@@ -32,3 +38,7 @@ pub record OpReadable (nums : List ℕ) (biases : List Float) (wires : List ℕ)
   pub kind_high : kind_at nums i ≤ reglu_kind
   pub left : Readable wires coefs n (left_form nums biases i)
   pub gate : kind_at nums i ≡ reglu_kind → Readable wires coefs n (gate_form nums biases i)
+
+-- the same, of a lent circuit
+abbrev pub OpReadableIn : Circuit → ℕ → ℕ → Type 0
+OpReadableIn c n i = OpReadable c.nums.now c.biases.now c.pools.wires.now c.pools.coefs.now n i

@@ -3,92 +3,62 @@
 #![tactic(auto)]
 
 ghost use Rattle.std.specs.Prelude.{◌≡◌, ℕ, ◌+◌, ◌≤◌, ◌<◌, length};
-ghost use Rattle.wire.specs.Terms.{meaning, value_in};
-ghost use Rattle.wire.specs.Storage.{form_at, op_at};
-ghost use Rattle.wire_pool.specs.Values.{Readable, OpReadable, op_value, table_after};
+ghost use Rattle.wire.specs.Terms.{value_in};
+ghost use Rattle.wire.specs.Circuit.{meaning_in, form_in, op_in};
+ghost use Rattle.wire_pool.specs.Values.{ReadableIn, OpReadableIn, op_value, table_after};
 
 use index::Wire;
-use wire::{Biases, Form, Nums, Op};
-
-pub fn wide(x: u32) -> usize
-    ensures { result ≡ x }
-{
-    x as usize
-}
+use wire::{Biases, Circuit, Form, Nums, Op, Pools};
 
 // The form whose range stands at one index of the numbers, and whose bias at one of the biases.
-pub fn form_at(nums: &[u32], biases: &[f32], at: usize, bias: usize) -> Form
-    requires { (at + 1 < length nums.now) × (bias < length biases.now) }
-    ensures { result ≡ form_at nums.now biases.now at bias }
+pub fn form_at(circuit: &Circuit, at: usize, bias: usize) -> Form
+    requires { (at + 1 < length circuit.now.nums.now) × (bias < length circuit.now.biases.now) }
+    ensures { result ≡ form_in circuit.now at bias }
 {
     Form {
-        bias: biases[bias],
-        first: wide(nums[at]),
-        len: wide(nums[at + 1]),
+        bias: circuit.biases[bias],
+        first: circuit.nums[at] as usize,
+        len: circuit.nums[at + 1] as usize,
     }
 }
 
 // A form's value against a table: the bias, then coefficient times value added in wire order.
-pub fn sum(f: Form, wires: &[u32], coefs: &[f32], table: &[f32]) -> f32
-    requires { Readable wires.now coefs.now (length table.now) f }
-    ensures { result ≡ value_in table.now (meaning wires.now coefs.now f) }
+pub fn sum(f: Form, pools: Pools, table: &[f32]) -> f32
+    requires { ReadableIn pools (length table.now) f }
+    ensures { result ≡ value_in table.now (meaning_in pools.entry f) }
 {
-    let first = f.first;
-    let end = first + f.len;
     let mut total = f.bias;
-    let mut at = first;
-    while at < end {
-        let wire = wires[at];
-        let w = Wire(wire).position();
-        total = total + coefs[at] * table[w];
-        at += 1;
+    for at in f.first..f.first + f.len {
+        total += pools.coefs[at] * table[Wire(pools.wires[at]).position()];
     }
     total
 }
 
 // The value of op i: a form, or left times max(0, gate).
-fn op_value(
-    nums: &[u32],
-    biases: &[f32],
-    wires: &[u32],
-    coefs: &[f32],
-    table: &[f32],
-    i: usize,
-) -> f32
-    requires { OpReadable nums.now biases.now wires.now coefs.now (length table.now) i }
-    ensures { result ≡ op_value table.now (op_at nums.now biases.now wires.now coefs.now i) }
+#[tactic(auto, unfolding(crate::specs::Values::op_value, wire::specs::Storage::op_at, wire::specs::Storage::op_of))]
+fn op_value(circuit: &Circuit, table: &[f32], i: usize) -> f32
+    requires { OpReadableIn circuit.now (length table.now) i }
+    ensures { result ≡ op_value table.now (op_in circuit.now i) }
 {
     let at = Nums::OPS + Nums::PER_OP * i;
     let bias = Biases::OPS + Biases::PER_OP * i;
-    let kind = nums[at];
-    let left = form_at(nums, biases, at + 1, bias);
-    let value = sum(left, wires, coefs, table);
-    if kind == Op::AFFINE {
+    let left = form_at(circuit, at + 1, bias);
+    let value = sum(left, circuit.pools, table);
+    if circuit.nums[at] == Op::AFFINE {
         return value;
     }
-    let gate = form_at(nums, biases, at + 3, bias + 1);
-    let rectified = exact::positive_part(sum(gate, wires, coefs, table));
-    value * rectified
+    let gate = form_at(circuit, at + 3, bias + 1);
+    value * exact::positive_part(sum(gate, circuit.pools, table))
 }
 
 // The values of the first ops ops, each written at its place past the cells.
-pub fn run_ops(
-    table: &mut [f32],
-    nums: &[u32],
-    biases: &[f32],
-    wires: &[u32],
-    coefs: &[f32],
-    cells: usize,
-    ops: usize,
-)
-    requires ops_in_bounds { cells + ops ≤ length table.old }
-    requires by_index { (i : ℕ) → i < ops → OpReadable nums.now biases.now wires.now coefs.now (cells + i) i }
-    ensures { table.new ≡ table_after (op_at nums.now biases.now wires.now coefs.now) cells table.old ops }
+#[tactic(auto, unfolding(crate::specs::Values::table_after))]
+pub fn run_ops(circuit: &Circuit, table: &mut [f32], ops: usize)
+    requires ops_in_bounds { circuit.now.counts.cells + ops ≤ length table.old }
+    requires by_index { (i : ℕ) → i < ops → OpReadableIn circuit.now (circuit.now.counts.cells + i) i }
+    ensures { table.new ≡ table_after (op_in circuit.now) circuit.now.counts.cells table.old ops }
 {
-    let mut i = 0usize;
-    while i < ops {
-        let v = op_value(nums, biases, wires, coefs, table, i);
-        table[cells + i] = v;
-        i += 1;
+    for i in 0..ops {
+        table[circuit.counts.cells + i] = op_value(circuit, table, i);
     }
 }

@@ -1,8 +1,8 @@
 -- Which forms and ops can be read, for any storage. Document 01, "Cells and forms". Definitions only.
-use Rattle.std.specs.Prelude.{ℕ, ◌+◌, List, Bool, false, cond, ◌&&◌, length, get_or, leb, ltb, eqb, Float}
+use Rattle.std.specs.Prelude.{ℕ, ◌+◌, List, Bool, false, Option, Some, None, cond, ◌&&◌, length, get_or, leb, ltb, eqb, Float}
 use Rattle.wire.specs.declared.Form.{Form}
 use Rattle.wire.specs.declared.Op.{Op}
-use Rattle.wire.specs.declared.Op.TheVariants.{Affine, Reglu, Neither}
+use Rattle.wire.specs.declared.Op.TheVariants.{Affine, Reglu}
 use Rattle.lists.specs.All.{all}
 use Rattle.wire.specs.Storage.{op_slots, affine_kind, reglu_kind, kind_at, left_form, gate_form}
 
@@ -20,18 +20,23 @@ readable wires coefs n f =
 
 -- ---- an op
 
--- op i in storage, of neither kind where there is no such slot
-unfoldable pub stored_op : List ℕ → List Float → ℕ → Op
+-- op i in storage, none where there is no such slot, or it is of neither kind
+unfoldable pub stored_op : List ℕ → List Float → ℕ → Option Op
 stored_op nums biases i =
     cond (ltb i (op_slots (length nums) (length biases)))
     (cond (eqb (kind_at nums i) affine_kind)
-    (Affine (left_form nums biases i))
-    (cond (eqb (kind_at nums i) reglu_kind) (Reglu (left_form nums biases i) (gate_form nums biases i)) Neither))
-    Neither
+    (Some (Affine (left_form nums biases i)))
+    (cond (eqb (kind_at nums i) reglu_kind) (Some (Reglu (left_form nums biases i) (gate_form nums biases i))) None))
+    None
 
--- an op is of one of the two kinds, and its forms read only values below n
+-- an op's forms read only values below n
 unfoldable pub op_reads : List ℕ → List Float → ℕ → Op → Bool
 unfolding readable
 op_reads wires coefs n (Affine form) = readable wires coefs n form
 op_reads wires coefs n (Reglu left gate) = readable wires coefs n left && readable wires coefs n gate
-op_reads wires coefs n Neither = false
+
+-- there is an op, and its forms do
+unfoldable pub slot_reads : List ℕ → List Float → ℕ → Option Op → Bool
+unfolding op_reads
+slot_reads wires coefs n (Some op) = op_reads wires coefs n op
+slot_reads wires coefs n None = false

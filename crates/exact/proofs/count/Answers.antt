@@ -9,9 +9,6 @@ use Rattle.exact.proofs.Cursor.{Cursor, cursor_test, cursor_is, cursor_cast}
 use Rattle.exact.proofs.count.Goals as goal
 use Rattle.exact.proofs.count.Goals.{After-is_small, Then-is_small-x}
 
-pub is_small-requires : goal.is_small-requires
-is_small-requires c = tt
-
 -- the test that the code makes is the definition's
 asked : (c : After-is_small) → c.is_small.result && (le zero32 c.args.x && le c.args.x cursor_most32) ≡ natural c.args.x && le c.args.x cursor_most32
 asked c = ap (λ (t : Bool). t && (le zero32 c.args.x && le c.args.x cursor_most32)) c.is_small.ensures ∙ cursor_test c.args.x

@@ -1,15 +1,14 @@
--- `lower_arbitrate::arbitrate` meets its contract.
-use mathlib.Core.Path.{◌≡◌}
-use Prim.Native.Nat.{◌≤◌}
-use lib.ListN.{length}
-use Rattle.builder_table.specs.Work.{mem}
+-- `lower_arbitrate::arbitrate`: the nodes still to come, from where it stands, leave what all nodes leave.
+use Rattle.std.proofs.Common.{◌≡◌}
+use Rattle.builder_table.specs.Loans.{memory, standing, LentAs}
+use Rattle.lower_passes.specs.Marks.{up_at}
 use Rattle.lower_passes.specs.Arbitrate.{Bounded, arbitrate_in}
 use Rattle.lower_arbitrate.proofs.arbitrate.Given as goal
 
 abbrev pub invariant-loop-i : goal.invariant-loop-i
-invariant-loop-i l =
-    (l.i ≤ l.nodes) × (length l.wires ≡ length l.initial.wires) × (length l.coefs ≡ length l.initial.coefs) × (length l.nums ≡ length l.initial.nums) × (length l.biases ≡ length l.initial.biases) × Bounded l.u
-    × (arbitrate_in (mem l.wires l.coefs l.nums l.biases) l.u l.kinds l.counts l.nodes l.base l.i ≡ arbitrate_in (mem l.initial.wires l.initial.coefs l.initial.nums l.initial.biases) l.initial.u l.kinds l.counts l.nodes l.base l.nodes)
-
-abbrev pub decreases-loop-i : goal.decreases-loop-i
-decreases-loop-i l = l.i
+invariant-loop-i l = record {
+  lent : LentAs l.initial.b l.b;
+  bounded : Bounded (up_at (standing l.b) l.u);
+  rest : arbitrate_in (memory l.b) (up_at (standing l.b) l.u) l.kinds l.counts l.nodes l.base l.i
+      ≡ arbitrate_in (memory l.initial.b) (up_at (standing l.initial.b) l.initial.u) l.kinds l.counts l.nodes l.base l.nodes;
+}

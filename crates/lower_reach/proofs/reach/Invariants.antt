@@ -1,15 +1,14 @@
--- `lower_reach::reach` meets its contract.
-use Rattle.builder_table.specs.Work.{mem}
-use mathlib.Core.Path.{◌≡◌}
-use Prim.Native.Nat.{◌-◌, ◌≤◌}
-use lib.ListN.{length}
+-- `lower_reach::reach`: the nodes still to come, from where it stands, leave what all nodes leave.
+use Rattle.std.proofs.Common.{◌≡◌, ◌-◌}
+use Rattle.builder_table.specs.Loans.{memory, standing, LentAs}
+use Rattle.lower_passes.specs.Marks.{down_at}
 use Rattle.lower_passes.specs.Reach.{Bounded, reach_in}
 use Rattle.lower_reach.proofs.reach.Given as goal
 
 abbrev pub invariant-loop-i : goal.invariant-loop-i
-invariant-loop-i l =
-    (l.i ≤ l.nodes) × (length l.wires ≡ length l.initial.wires) × (length l.coefs ≡ length l.initial.coefs) × (length l.nums ≡ length l.initial.nums) × (length l.biases ≡ length l.initial.biases)
-    × (reach_in (mem l.wires l.coefs l.nums l.biases) l.v l.kinds l.counts l.nodes l.i (l.nodes - l.i) ≡ reach_in (mem l.initial.wires l.initial.coefs l.initial.nums l.initial.biases) l.initial.v l.kinds l.counts l.nodes 0 l.nodes) × Bounded l.v
-
-abbrev pub decreases-loop-i : goal.decreases-loop-i
-decreases-loop-i l = l.nodes - l.i
+invariant-loop-i l = record {
+  lent : LentAs l.initial.b l.b;
+  bounded : Bounded (down_at (standing l.b) l.v);
+  rest : reach_in (memory l.b) (down_at (standing l.b) l.v) l.kinds l.counts l.nodes l.i (l.nodes - l.i)
+      ≡ reach_in (memory l.initial.b) (down_at (standing l.initial.b) l.initial.v) l.kinds l.counts l.nodes 0 l.nodes;
+}

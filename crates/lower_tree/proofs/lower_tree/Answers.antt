@@ -1,58 +1,34 @@
 -- `lower_tree::lower_tree` meets its contract.
-use Prim.Native.Nat.{ℕ, ◌≤◌}
-use mathlib.Core.Path.{ap, sym, ◌∙◌}
-use native.Mathlib.Omega.{arith}
-use mir.Syntax.{w8}
-use mir.Val.{Fits}
-use lib.ListN.{length, get_or}
-use native.Mathlib.Omega.{arith}
-use Rattle.tree.specs.Tree.{tree_of}
-use Rattle.compile.specs.Compile.{Lent, lent, compile_tree}
+use Rattle.std.proofs.Common.{sym, ap, ◌∙◌}
+use Rattle.std.proofs.lemmas.Result.{err_from_is_err_and}
+use Rattle.tree.specs.Tree.{tree_of, flat_of}
+use Rattle.compile.specs.Lending.{lent_in}
+use Rattle.compile.specs.Compile.{compile_tree}
 use Rattle.builder_table.specs.Work.{mem}
-use Rattle.lower_tree.proofs.Lowered.{Flat, flat_is, refused_is, nodes_few, front, Ready, ready}
+use Rattle.lower_tree.proofs.Lowered.{Ready, ready, refused_is}
 use Rattle.lower_tree.proofs.lower_tree.Goals as goal
-use Rattle.lower_tree.proofs.lower_tree.Goals.{Start, After-flatten-flattened, After-nodes_held-nodes}
+use Rattle.lower_tree.proofs.lower_tree.Goals.{In_ok-nodes}
 
--- the lengths lent
-abbrev sizes : Start → Lent
-sizes c =
+pub returns-in_err-nodes-clause-outcome : goal.returns-in_err-nodes-clause-outcome
+unfolding flat_of
+returns-in_err-nodes-clause-outcome c =
     let a = c.args in
-    lent (length a.nums.now) (length a.biases.now) (length a.wires.now) (length a.coefs.now)
-    (length a.worknums.now) (length a.workbiases.now) (length a.workwires.now) (length a.workcoefs.now)
-
--- ---- what holds there
-flat : (c : After-flatten-flattened) → Flat (tree_of c.args.tree.now) c.flatten-flattened.result c.flatten-flattened.new.kinds c.flatten-flattened.new.counts
-flat c = flat_is c.args.tree.now c.flatten-flattened.ensures.value c.flatten-flattened.ensures.kinds_after c.flatten-flattened.ensures.counts_after
-
-few : (c : After-nodes_held-nodes) → c.nodes_held-nodes.result ≤ 128
-few c = nodes_few (tree_of c.args.tree.now) (flat (goal.at.After-nodes_held-nodes c).After-flatten-flattened) c.nodes_held-nodes.ensures c.flatten-flattened.auto.kinds
-
-nodes : (c : After-nodes_held-nodes) → ((i : ℕ) → Fits w8 (get_or c.args.tree.now i 0))
-    → let a = c.args in
-    Ready (tree_of a.tree.now) a.nums.now a.biases.now (mem a.workwires.now a.workcoefs.now a.worknums.now a.workbiases.now)
-    (front c.nodes_held-nodes.result c.flatten-flattened.new.kinds) (front c.nodes_held-nodes.result c.flatten-flattened.new.counts)
-nodes c bytes =
-    let a = c.args in
-    ready a.tree.now bytes a.nums.now a.biases.now (length a.wires.now) (length a.coefs.now)
-    (mem a.workwires.now a.workcoefs.now a.worknums.now a.workbiases.now) c.requires.workcoefs_value
-    (flat (goal.at.After-nodes_held-nodes c).After-flatten-flattened) c.in_default.is c.nodes_held-nodes.ensures c.flatten-flattened.auto.kinds
-
-pub lower_nodes-requires : goal.lower_nodes-requires
-lower_nodes-requires c =
-    let r = nodes (goal.at.lower_nodes-requires c).After-nodes_held-nodes c.type_inv.tree in
-    record { whole = r.holds; zeroed = c.requires.zeroed; builds = r.builds }
-
-pub returns-in_default : goal.returns-in_default
-returns-in_default c = c.lower_nodes.ensures ∙ ap (compile_tree (sizes (goal.at.returns-in_default c).Start)) (sym (nodes (goal.at.returns-in_default c).After-nodes_held-nodes c.type_inv.tree).tree)
-
-pub returns : goal.returns
-returns c =
     let z = c.requires.zeroed in
-    refused_is (tree_of c.args.tree.now) (sizes (goal.at.returns c).Start) (flat (goal.at.returns c).After-flatten-flattened) c.in-Refused.is z.nums_are z.biases_are z.wires_are z.coefs_are
+    let e = c.in_err-nodes.ensures.value in
+    let p = err_from_is_err_and c.from_residual.result c.from_residual.ensures.1 in
+    rw (p.1, p.2) (refused_is (tree_of a.tree.now) (lent_in a.storage.now a.work.now) a.storage.now e z.nums z.biases z.wires z.coefs)
 
-pub slice_bounds-lower_nodes-end : goal.slice_bounds-lower_nodes-end
-slice_bounds-lower_nodes-end c = omega (arith, few (goal.at.slice_bounds-lower_nodes-end c).After-nodes_held-nodes, c.flatten-flattened.auto.kinds)
+nodes : (c : In_ok-nodes) → let w = c.args.work.now in
+    Ready c.args.tree.now c.flatten.new.kinds c.flatten.new.counts c.in_ok-nodes.nodes (mem w.wires.now w.coefs.now w.nums.now w.biases.now)
+nodes c =
+    let a = c.args in
+    let e = c.in_ok-nodes.ensures in
+    ready a.storage.now a.work.now c.requires.enough a.tree.now c.type_inv.tree e.value e.kinds_after e.counts_after
 
-pub slice_bounds-lower_nodes-end-in_default : goal.slice_bounds-lower_nodes-end-in_default
-slice_bounds-lower_nodes-end-in_default c =
-    omega (arith, few (goal.at.slice_bounds-lower_nodes-end-in_default c).After-nodes_held-nodes, c.flatten-flattened.auto.counts)
+pub lower_nodes-requires-clause-builds : goal.lower_nodes-requires-clause-builds
+lower_nodes-requires-clause-builds c = (nodes (goal.at.lower_nodes-requires-clause-builds c).In_ok-nodes).builds
+
+pub returns-clause-outcome : goal.returns-clause-outcome
+returns-clause-outcome c =
+    let lent = lent_in c.args.storage.now c.args.work.now in
+    c.lower_nodes.ensures.outcome ∙ ap (compile_tree lent) (sym (nodes (goal.at.returns-clause-outcome c).In_ok-nodes).tree)

@@ -1,16 +1,18 @@
--- `tick_lane::finish` meets its contract.
-use mathlib.Core.Path.{refl}
-use native.Mathlib.Omega.{arith}
+-- The values that are settled are those that were read.
+use Rattle.std.proofs.Common.{◌≡◌, ap, ◌∙◌, take, List, Float}
+use Rattle.wire.specs.Storage.{output_count}
+use Rattle.tick_check.specs.Check.{stored_in}
+use Rattle.tick_lane.specs.Lane.{settle_of}
+use Rattle.tick_lane.specs.Loans.{lent_in}
+use Rattle.tick_lane.specs.Evaluate.{outs_of}
 use Rattle.tick_lane.proofs.Cells.{outs_part}
-use Rattle.tick_lane.proofs.LaneLaws.{settle_at}
 use Rattle.tick_lane.proofs.finish.Goals as goal
 
-pub settle-requires : goal.settle-requires
-settle-requires c = record {
-  n_value = (refl, omega arith, omega arith, omega arith);
-  nodes_in_bounds = (omega arith, omega arith, omega arith, omega arith);
-  by_index = c.requires.checked.leaves;
-}
-
-pub returns : goal.returns
-returns c = λ values. settle_at _ _ _ (outs_part _ _ _ c.requires.counts_in_bounds.0 c.read_outs.ensures) (c.settle.ensures values)
+pub returns-clause-outcome : goal.returns-clause-outcome
+returns-clause-outcome c =
+    let circuit = c.args.circuit.now in
+    let lane = c.args.lane.now in
+    let n = output_count circuit.counts in
+    let read : take n c.read_outs.new.outs ≡ outs_of (stored_in circuit) lane.values.now =
+    ap (take n) c.read_outs.ensures ∙ outs_part (stored_in circuit) lane.values.now c.args.room.now c.requires.1 in
+    c.settle.ensures.outcome ∙ ap (λ (outs : List Float). settle_of circuit.counts circuit.nums.now outs (lent_in lane)) read

@@ -1,11 +1,8 @@
--- `tick_report::write_marks` meets its contract.
-use Prim.Native.Nat.{◌-◌, ◌≤◌}
-use lib.ListN.{length, get_or}
-use Rattle.tick_report.proofs.Picked.{Going}
+-- `tick_report::write_marks`: to write the rest of the marks from here on is to write all of them from the start.
+use Rattle.std.proofs.Common.{◌≡◌, map, drop, get_or}
+use Rattle.std.proofs.lemmas.List.Edits.{sets}
 use Rattle.tick_report.proofs.write_marks.Given as goal
 
-abbrev pub invariant-loop-i : goal.invariant-loop-i
-invariant-loop-i l = Going (λ v. get_or l.marks v l.absent) l.marks l.absent l.report l.initial.out l.out l.n l.i × (l.n ≤ l.i)
-
-abbrev pub decreases-loop-i : goal.decreases-loop-i
-decreases-loop-i l = length l.report - l.i
+abbrev pub invariant-loop-n : goal.invariant-loop-n
+invariant-loop-n l =
+    sets l.out l.n (map (λ v. get_or l.marks v l.absent) (drop l.n l.nodes)) ≡ sets l.initial.out 0 (map (λ v. get_or l.marks v l.absent) l.nodes)

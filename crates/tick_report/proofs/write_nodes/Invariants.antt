@@ -1,11 +1,12 @@
--- `tick_report::write_nodes` meets its contract.
-use Prim.Native.Nat.{◌-◌, ◌≤◌}
-use lib.ListN.{length}
-use Rattle.tick_report.proofs.Picked.{Going}
+-- `tick_report::write_nodes`: to write the rest of the nodes from here on is to write all of them from the start.
+use Rattle.std.proofs.Common.{◌≡◌, ◌+◌, ◌≤◌, length, drop}
+use Rattle.std.proofs.lemmas.List.Edits.{sets}
+use Rattle.tick_report.specs.Report.{nodes_of}
 use Rattle.tick_report.proofs.write_nodes.Given as goal
 
-abbrev pub invariant-loop-i : goal.invariant-loop-i
-invariant-loop-i l = Going (λ v. v) l.marks l.absent l.report l.initial.out l.out l.n l.i × (l.n ≤ l.i)
-
-abbrev pub decreases-loop-i : goal.decreases-loop-i
-decreases-loop-i l = length l.report - l.i
+abbrev pub invariant-loop-node : goal.invariant-loop-node
+invariant-loop-node l = record {
+  in_range : l.n ≤ l.node-index;
+  counted : l.n + length (nodes_of l.marks l.absent (drop l.node-index l.report)) ≡ length (nodes_of l.marks l.absent l.report);
+  written : sets l.nodes l.n (nodes_of l.marks l.absent (drop l.node-index l.report)) ≡ sets l.initial.nodes 0 (nodes_of l.marks l.absent l.report);
+}

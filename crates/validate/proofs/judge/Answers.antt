@@ -1,10 +1,12 @@
--- `validate::judge` meets its contract.
-use mathlib.Core.Path.{◌≡◌, ap, ◌∙◌}
-use Prim.Native.Nat.{ℕ, ◌-◌}
-use native.Mathlib.Omega.{arith}
-use lib.ListN.{take}
-use Rattle.tick_verdict.specs.Verdict.{values_verdict}
+-- `validate::judge`: the values of the output forms are those that stand first in the room.
+use Rattle.std.proofs.Common.{arith, replicate}
+use Rattle.std.proofs.lemmas.List.{length-replicate}
+use Rattle.exact.specs.Whole.{zero32}
+use Rattle.tick_check.specs.Check.{stored_in}
+use Rattle.tick_lane.proofs.Cells.{outs_part}
 use Rattle.validate.proofs.judge.Goals as goal
 
 pub returns : goal.returns
-returns c = let q : c.args.n - 0 ≡ c.args.n = omega arith in c.values_verdict.ensures ∙ ap (λ (k : ℕ). values_verdict (take k c.args.room.now) c.args.nodes c.args.cursors) q
+returns c =
+    let first = outs_part (stored_in c.args.circuit.now) c.args.table.now (replicate 896 zero32) (omega (arith, length-replicate 896 zero32)) in
+    cc

@@ -1,11 +1,11 @@
--- `list_text::fields::append_more` meets its contract: after a turn one cursor more is written, and the rest is still to be.
-use lib.ListN.{length}
-use Prim.Native.Nat.{◌-◌}
-use Rattle.list_text.proofs.Joins.{Joined}
+-- `list_text::fields::append_more`: so many cursors are in the line, and the rest is still to be.
+use Rattle.std.proofs.Common.{◌≡◌, ◌+◌, ◌*◌, ◌≤◌, ◌++◌, take, drop}
+use Rattle.list_text.specs.Line.{more}
 use Rattle.list_text.proofs.fields.append_more.Given as goal
 
-abbrev pub invariant-loop-i : goal.invariant-loop-i
-invariant-loop-i l = Joined l.initial.line l.at l.cursors l.line l.end l.i
-
-abbrev pub decreases-loop-i : goal.decreases-loop-i
-decreases-loop-i l = length l.cursors - l.i
+abbrev pub invariant-loop-cursor : goal.invariant-loop-cursor
+invariant-loop-cursor l =
+    record {
+      used : l.end ≤ l.at + 21 * l.cursor-index;
+      written : take l.end l.line ++ more (drop l.cursor-index l.cursors) ≡ take l.at l.initial.line ++ more l.cursors;
+    }

@@ -1,9 +1,14 @@
--- `list_turns::rows::take_turns` is safe and ends: the measure is the number of turns that are left.
-use Rattle.std.proofs.Common.{◌≤◌, length}
+-- `list_turns::rows::take_turns`: what was read and written so far, and what is still to be.
+use Rattle.list_rows.specs.Left.{kept_in}
+use Rattle.tick_check.specs.Check.{stored_in}
+use Rattle.list_turns.specs.Went.{Goes, Inside, turn_due}
 use Rattle.list_turns.proofs.rows.take_turns.Given as goal
 
-abbrev pub invariant-loop-turns : goal.invariant-loop-turns
-invariant-loop-turns g l = (l.at ≤ l.end) × (l.end ≤ length l.buffer)
-
-abbrev pub decreases-loop-turns : goal.decreases-loop-turns
-decreases-loop-turns g l = l.turns
+abbrev pub invariant-loop : goal.invariant-loop
+invariant-loop g l =
+    record {
+      inside : Inside l.buffer l.turn;
+      went : Goes (turn_due (stored_in l.circuit) l.initial.buffer l.fn.first (kept_in l.initial.state))
+          (turn_due (stored_in l.circuit) l.buffer l.turn (kept_in l.state))
+          (g.R.Read.remaining l.initial.input) (g.R.Read.remaining l.input) (g.W.Write.contents l.initial.output) (g.W.Write.contents l.output);
+    }

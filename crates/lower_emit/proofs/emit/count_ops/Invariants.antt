@@ -1,11 +1,7 @@
--- `lower_emit::emit::count_ops` meets its contract.
-use mathlib.Core.Path.{◌≡◌}
-use Prim.Native.Nat.{◌+◌, ◌-◌, ◌≤◌}
+-- `lower_emit::emit::count_ops`: what is counted, and what is left to count, is all.
+use Rattle.std.proofs.Common.{◌≡◌, ◌+◌, ◌-◌}
 use Rattle.lower_emit.specs.Emit.{op_lens}
 use Rattle.lower_emit.proofs.emit.count_ops.Given as goal
 
 abbrev pub invariant-loop-k : goal.invariant-loop-k
-invariant-loop-k l = (l.k ≤ l.ops) × (l.total + op_lens l.nums l.k (l.ops - l.k) ≡ op_lens l.nums 0 l.ops)
-
-abbrev pub decreases-loop-k : goal.decreases-loop-k
-decreases-loop-k l = l.ops - l.k
+invariant-loop-k l = l.total + op_lens l.b.nums.now l.k (l.b.ops - l.k) ≡ op_lens l.b.nums.now 0 l.b.ops

@@ -1,15 +1,14 @@
--- `lower_ordered::stops::stops` meets its contract.
-use Rattle.builder_table.specs.Work.{mem}
-use mathlib.Core.Path.{◌≡◌}
-use Prim.Native.Nat.{◌-◌, ◌≤◌}
-use lib.ListN.{length}
+-- `lower_ordered::stops::stops`: the children still to come, from where it stands, leave what all children leave.
+use Rattle.std.proofs.Common.{◌≡◌, ◌-◌}
+use Rattle.exact.specs.Whole.{zero32}
+use Rattle.wire.specs.Terms.{constant_form}
+use Rattle.builder_table.specs.Loans.{memory, standing, LentAs}
 use Rattle.lower_passes.specs.Stops.{stops_in}
 use Rattle.lower_ordered.proofs.stops.stops.Given as goal
 
 abbrev pub invariant-loop-k : goal.invariant-loop-k
-invariant-loop-k l =
-    (l.k ≤ l.n) × (length l.wires ≡ length l.initial.wires) × (length l.coefs ≡ length l.initial.coefs) × (length l.nums ≡ length l.initial.nums) × (length l.biases ≡ length l.initial.biases)
-    × (stops_in (mem l.wires l.coefs l.nums l.biases) l.room l.sum l.row l.k (l.n - l.k) ≡ stops_in (mem l.initial.wires l.initial.coefs l.initial.nums l.initial.biases) l.initial.room l.initial.sum l.row 0 l.n)
-
-abbrev pub decreases-loop-k : goal.decreases-loop-k
-decreases-loop-k l = l.n - l.k
+invariant-loop-k l = record {
+  lent : LentAs l.initial.b l.b;
+  rest : stops_in (memory l.b) (standing l.b) l.sum l.row l.k (l.n - l.k)
+      ≡ stops_in (memory l.initial.b) (standing l.initial.b) (constant_form zero32) l.row 0 l.n;
+}

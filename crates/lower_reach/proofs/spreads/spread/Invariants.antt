@@ -1,15 +1,12 @@
--- `lower_reach::spreads::spread` meets its contract.
-use Rattle.builder_table.specs.Work.{mem}
-use mathlib.Core.Path.{◌≡◌}
-use Prim.Native.Nat.{◌-◌, ◌≤◌}
-use lib.ListN.{length}
+-- `lower_reach::spreads::spread`: the children still to come, from where it stands, leave what all children leave.
+use Rattle.std.proofs.Common.{◌≡◌, ◌-◌}
+use Rattle.builder_table.specs.Loans.{memory, standing, LentAs}
 use Rattle.lower_passes.specs.Reach.{spread_in}
 use Rattle.lower_reach.proofs.spreads.spread.Given as goal
 
 abbrev pub invariant-loop-k : goal.invariant-loop-k
-invariant-loop-k l =
-    (l.k ≤ l.n) × (length l.wires ≡ length l.initial.wires) × (length l.coefs ≡ length l.initial.coefs) × (length l.nums ≡ length l.initial.nums) × (length l.biases ≡ length l.initial.biases)
-    × (spread_in (mem l.wires l.coefs l.nums l.biases) l.room l.reached l.halted l.row l.d l.k (l.n - l.k) ≡ spread_in (mem l.initial.wires l.initial.coefs l.initial.nums l.initial.biases) l.initial.room l.reached l.halted l.row l.d 0 l.n)
-
-abbrev pub decreases-loop-k : goal.decreases-loop-k
-decreases-loop-k l = l.n - l.k
+invariant-loop-k l = record {
+  lent : LentAs l.initial.b l.b;
+  rest : spread_in (memory l.b) (standing l.b) l.reached.0 l.halted.0 l.row l.d l.k (l.n - l.k)
+      ≡ spread_in (memory l.initial.b) (standing l.initial.b) l.reached.0 l.halted.0 l.row l.d 0 l.n;
+}

@@ -1,47 +1,35 @@
--- `plan::lists::report_order` meets its contract: the loop keeps `At`, what is reported so far and what is still to be; the measure counts the nodes
--- that are still to be read and those that are open.
-use Prim.Native.Nat.{◌+◌, ◌-◌, ◌<◌}
-use lib.ListN.{get_or, set}
-use native.Mathlib.Omega.{arith}
-use Rattle.plan.proofs.Reports.{At, start, closes, opens, ended}
-use Rattle.plan.proofs.Said.{said_all}
+-- `plan::lists::report_order` meets its contract: a turn of the inner loop opens a node, and one of the outer loop closes one.
+use Rattle.std.proofs.Common.{◌∙◌, ◌≡◌, ap, inl, inr, ◌+◌, ◌-◌, ◌<◌, length, set, arith, length-take}
+use Rattle.plan.specs.Plan.{report_of}
+use Rattle.plan.proofs.Reports.{At, slot, start, closes, opens, ended}
 use Rattle.plan.proofs.lists.report_order.Goals as goal
-use Rattle.plan.proofs.lists.report_order.Goals.{Else-top-nodes, Then-top-nodes}
-
--- a turn that closes a node, and one that opens one
-shut : (c : Then-top-nodes) → (0 < c.loop-done.depth) × At c.args.counts.now c.args.report.now (set c.loop-done.report c.loop-done.done (get_or c.loop-done.numbers c.loop-done.depth 0)) c.loop-done.numbers c.loop-done.due c.nodes_in-nodes.result (c.loop-done.depth - 1) c.loop-done.node (c.loop-done.done + 1)
-shut c = closes _ _ _ _ _ _ _ _ _ c.loop-done.invariant c.loop-done-test.true c.if-top-nodes.true
-
-opened : (c : Else-top-nodes) → (c.loop-done.node < c.nodes_in-nodes.result) × (0 < get_or c.loop-done.due c.loop-done.depth 0)
-    × At c.args.counts.now c.args.report.now c.loop-done.report (set c.loop-done.numbers (c.loop-done.depth + 1) c.loop-done.node)
-    (set (set c.loop-done.due c.loop-done.depth (get_or c.loop-done.due c.loop-done.depth 0 - 1)) (c.loop-done.depth + 1) (get_or c.args.counts.now c.loop-done.node 0)) c.nodes_in-nodes.result (c.loop-done.depth + 1) (c.loop-done.node + 1) c.loop-done.done
-opened c = opens _ _ _ _ _ _ _ _ _ c.loop-done.invariant c.if-top-nodes.false
+use Rattle.plan.proofs.lists.report_order.Goals.{After-put, then-loop-stack-test+else-node-nodes, else-loop-stack-test}
 
 pub loop-done-init : goal.loop-done-init
-loop-done-init c = start _ _ _ c.nodes_in-nodes.ensures
+loop-done-init c = start _ _ (omega (arith, ap length c.nodes_in-nodes.ensures, length-take 128 c.args.counts.now))
 
-pub loop-done-smaller-then-top-nodes : goal.loop-done-smaller-then-top-nodes
-loop-done-smaller-then-top-nodes c = omega (arith, (shut (goal.at.loop-done-smaller-then-top-nodes c).Then-top-nodes).0)
+pub loop-stack-preserved : goal.loop-stack-preserved
+loop-stack-preserved c = opens c.loop-stack.invariant c.loop-stack-test.true c.if-node-nodes.true
 
-pub loop-done-preserved-then-top-nodes : goal.loop-done-preserved-then-top-nodes
-loop-done-preserved-then-top-nodes c = rw c.put.ensures (shut (goal.at.loop-done-preserved-then-top-nodes c).Then-top-nodes).1
+-- the innermost open node is closed
+shut : (c : After-put) → (0 < c.loop-stack.depth) × At c.nodes_in-nodes.result.now c.args.report.now
+    (set c.loop-done.report c.loop-done.done (slot c.loop-stack.stack c.loop-stack.depth).node)
+    c.loop-stack.stack (c.loop-stack.depth - 1) c.loop-stack.node (c.loop-done.done + 1)
+shut c =
+    closes c.loop-stack.invariant c.loop-done-test.true (elim c.loop-stack-test.branch [
+      | then-loop-stack-test+else-node-nodes w ↦ inr w.if-node-nodes.false
+      | else-loop-stack-test w ↦ inl w.loop-stack-test.false
+    ])
 
-pub bounds-numbers-depth-else-top-nodes : goal.bounds-numbers-depth-else-top-nodes
-bounds-numbers-depth-else-top-nodes c = omega (arith, (opened (goal.at.bounds-numbers-depth-else-top-nodes c).Else-top-nodes).0)
-
-pub bounds-counts-node : goal.bounds-counts-node
-bounds-counts-node c = omega (arith, (opened (goal.at.bounds-counts-node c).Else-top-nodes).0)
-
-pub bounds-due-depth-else-top-nodes-2 : goal.bounds-due-depth-else-top-nodes-2
-bounds-due-depth-else-top-nodes-2 c = omega (arith, (opened (goal.at.bounds-due-depth-else-top-nodes-2 c).Else-top-nodes).0)
-
-pub loop-done-smaller : goal.loop-done-smaller
-loop-done-smaller c = omega (arith, (opened (goal.at.loop-done-smaller c).Else-top-nodes).0)
+pub overflow_sub-depth : goal.overflow_sub-depth
+overflow_sub-depth c = (shut (goal.at.overflow_sub-depth c).After-put).0
 
 pub loop-done-preserved : goal.loop-done-preserved
-loop-done-preserved c = (opened (goal.at.loop-done-preserved c).Else-top-nodes).2
+loop-done-preserved c = rw c.put.ensures (shut (goal.at.loop-done-preserved c).After-put).1
 
 pub returns : goal.returns
+unfolding report_of
 returns c =
-    let both = said_all (ended _ _ _ _ _ _ _ _ _ c.loop-done.invariant c.loop-done-test.false) in
-    record { value = both.0; report_after = both.1 }
+    let reported = rw c.nodes_in-nodes.ensures at (ended c.loop-done.invariant c.loop-done-test.false) in
+    let all : length c.nodes_in-nodes.result.now ≡ c.loop-done.done = omega arith in
+    record { value = all ∙ reported.0; report_after = reported.1 }

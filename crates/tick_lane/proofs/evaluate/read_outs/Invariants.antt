@@ -1,14 +1,9 @@
--- `tick_lane::evaluate::read_outs` meets its contract.
-use mathlib.Core.Path.{◌≡◌}
-use Prim.Native.Nat.{◌-◌, ◌≤◌}
-use lib.ListN.{length}
-use Rattle.wire.specs.Terms.{value_in, meaning}
-use Rattle.wire.specs.Storage.{output_form}
+-- The values below the index are written.
+use Rattle.std.proofs.Common.{◌≡◌}
 use Rattle.lists.specs.Fill.{fill_at}
+use Rattle.tick_check.specs.Check.{stored_in}
+use Rattle.tick_lane.specs.Evaluate.{out_value}
 use Rattle.tick_lane.proofs.evaluate.read_outs.Given as goal
 
 abbrev pub invariant-loop-k : goal.invariant-loop-k
-invariant-loop-k l = (l.k ≤ l.n) × (length l.outs ≡ length l.initial.outs) × (l.outs ≡ fill_at 0 (λ i. value_in l.table (meaning l.wires l.coefs (output_form l.nums l.biases i))) l.initial.outs l.k)
-
-abbrev pub decreases-loop-k : goal.decreases-loop-k
-decreases-loop-k l = l.n - l.k
+invariant-loop-k l = l.outs ≡ fill_at 0 (out_value (stored_in l.circuit) l.table) l.initial.outs l.k

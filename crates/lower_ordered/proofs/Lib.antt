@@ -1,3 +1,0 @@
-pub mod GatesMade
-pub mod OrderedMade
-pub mod StopsMade

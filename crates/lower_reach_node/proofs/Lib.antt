@@ -1,3 +1,0 @@
-pub mod CursorsMade
-pub mod FlagsMade
-pub mod HaltsMade

@@ -1,9 +1,0 @@
--- `tick_lane::answers::bit_of` meets its contract.
-use mathlib.Core.Path.{sym, ◌∙◌}
-use Rattle.tick_lane.proofs.answers.bit_of.Goals as goal
-
-pub returns-then-is_set : goal.returns-then-is_set
-returns-then-is_set c = rw (sym c.is_set.ensures ∙ c.if-is_set.true)
-
-pub returns-else-is_set : goal.returns-else-is_set
-returns-else-is_set c = rw (sym c.is_set.ensures ∙ c.if-is_set.false)
