@@ -1,5 +1,5 @@
 -- What writing terms to the two pools does: terms put at an index, and one step of a merge. Inner: the shape of the code; nobody need believe it.
-use Rattle.std.specs.Prelude.{ℕ, Bool, MatchBool, ◌+◌, ◌<◌, ◌≤◌, ◌≡◌, List, ◌∷◌, map, length, get_or, Float}
+use Rattle.std.specs.Prelude.{ℕ, ◌+◌, ◌<◌, ◌≡◌, List, ◌∷◌, map, length, Float}
 use Rattle.std.proofs.lemmas.List.Edits.{sets}
 use Rattle.wire.specs.declared.Form.{Form}
 use Rattle.wire.specs.declared.Term.{Term}
@@ -19,12 +19,6 @@ pub record Put (ws : List ℕ) (cs : List Float) (at : ℕ) (ts : List Term) (ws
   pub wires : ws' ≡ sets ws at (wires_in ts)
   pub coefs : cs' ≡ sets cs at (coefs_in ts)
   pub used : next ≡ at + length ts
-
--- what a test says of two forms: the first has a lower first wire than the other, or not; a form at its end has none
-abbrev pub IsLower : List ℕ → Form → Form → Bool → Type 0
-IsLower ws a b r = MatchBool r
-    ((0 < a.len) × (0 < b.len → get_or ws a.first 0 < get_or ws b.first 0))
-    (0 < a.len → (0 < b.len) × (get_or ws b.first 0 ≤ get_or ws a.first 0))
 
 -- one term taken off one form or one off each
 pub record Stepped (ws : List ℕ) (cs : List Float) (a b : Form) (r : Next) : Type 0 where

@@ -2,7 +2,7 @@
 ghost use Rattle.std.specs.Prelude.{◌≡◌, [], ◌∷◌, ◌+◌, ◌-◌, ◌^◌, ◌≤◌, ◌<◌, length};
 ghost use Rattle.wire.specs.Terms.{term_at as termOf};
 ghost use Rattle.arena_terms.specs.Sums.{kept};
-ghost use Rattle.arena_terms.specs.Steps.{Put, Stepped, IsLower};
+ghost use Rattle.arena_terms.specs.Steps.{Put, Stepped};
 
 use index::Wire;
 use wire::{Form, Term};
@@ -38,17 +38,8 @@ fn rest(f: Form) -> Form
     }
 }
 
-// Whether the first form has the lower first wire; a form at its end has none.
-fn is_lower(wires: &[u32], a: Form, b: Form) -> bool
-    requires some_left { 0 < a.len + b.len }
-    requires in_bounds { (a.first + a.len ≤ length wires.now) × (b.first + b.len ≤ length wires.now) }
-    ensures { IsLower wires.now a b result }
-{
-    b.len == 0 || (a.len > 0 && wires[a.first] < wires[b.first])
-}
-
-// The first term of the merge of two forms: of the form whose wire is lower, or of both where their wires are equal. Two tests, since a match on
-// the order of the wires merges slower, by a fifth.
+// The first term of the merge of two forms: of the form whose wire is lower, of both where their wires are equal, or of the only one that has any. Both
+// terms are read before their wires are compared, and by two tests: otherwise it merges slower, by a fifth and more.
 #[tactic(auto, using(crate::proofs::First::from_a, crate::proofs::First::from_b, crate::proofs::First::from_both))]
 pub fn next_term(wires: &[u32], coefs: &[f32], a: Form, b: Form) -> Next
     requires some_left { 0 < a.len + b.len }
@@ -56,24 +47,40 @@ pub fn next_term(wires: &[u32], coefs: &[f32], a: Form, b: Form) -> Next
     requires coefs_in_bounds { (a.first + a.len ≤ length coefs.now) × (b.first + b.len ≤ length coefs.now) }
     ensures { Stepped wires.now coefs.now a b result }
 {
-    if is_lower(wires, a, b) {
+    if b.len == 0 {
         return Next {
             term: term_at(wires, coefs, a.first),
             a: rest(a),
             b,
         };
     }
-    if is_lower(wires, b, a) {
+    if a.len == 0 {
         return Next {
             term: term_at(wires, coefs, b.first),
             a,
             b: rest(b),
         };
     }
+    let x = term_at(wires, coefs, a.first);
+    let y = term_at(wires, coefs, b.first);
+    if x.wire.0 < y.wire.0 {
+        return Next {
+            term: x,
+            a: rest(a),
+            b,
+        };
+    }
+    if y.wire.0 < x.wire.0 {
+        return Next {
+            term: y,
+            a,
+            b: rest(b),
+        };
+    }
     Next {
         term: Term {
-            wire: Wire(wires[a.first]),
-            coef: coefs[a.first] + coefs[b.first],
+            coef: x.coef + y.coef,
+            ..x
         },
         a: rest(a),
         b: rest(b),

@@ -5,10 +5,12 @@
 #![tactic(auto)]
 
 ghost use Rattle.std.specs.Prelude.{◌≡◌};
+ghost use Rattle.arena.specs.Arena.{formed, Leaves, one_minus_in, plus_in};
+ghost use Rattle.arena.specs.Loans.{LentAs};
 ghost use Rattle.builder_table.specs.Loans.{memory, standing, Makes};
-ghost use Rattle.builder_table.specs.Steps.{one_minus_in, plus_in};
 ghost use Rattle.builder.specs.Bits.{bit_form, is_true_form, is_false_form, minus_in, relu_in, is_zero_in, step_within, at_least_in, and_in, either_in, or_in};
 
+use arena::Arena;
 use builder_table::Builder;
 use wire::Form;
 
@@ -45,18 +47,22 @@ impl Bit {
     }
 }
 
-// `1 - bit`. No op.
-pub fn not(b: &mut Builder, bit: Bit) -> Bit
-    ensures { Makes b.old b.new result.0 (one_minus_in (memory b.old) (standing b.old) bit.0) }
+// `1 - bit`. No op, so that no table is asked for.
+pub fn not(arena: &mut Arena, bit: Bit) -> Bit
+    ensures lent { LentAs arena.old arena.new }
+    ensures leaves { Leaves (one_minus_in arena.old.wires.now arena.old.coefs.now arena.old.room bit.0)
+        arena.new.wires.now arena.new.coefs.now (formed result.0 arena.new.room) }
 {
-    Bit(b.one_minus(bit.0))
+    Bit(arena.one_minus(bit.0))
 }
 
-// The sum of two bits that cannot both be 1. No op.
-pub fn or_disjoint(b: &mut Builder, left: Bit, right: Bit) -> Bit
-    ensures { Makes b.old b.new result.0 (plus_in (memory b.old) (standing b.old) left.0 right.0) }
+// The sum of two bits that cannot both be 1. No op, so that no table is asked for.
+pub fn or_disjoint(arena: &mut Arena, left: Bit, right: Bit) -> Bit
+    ensures lent { LentAs arena.old arena.new }
+    ensures leaves { Leaves (plus_in arena.old.wires.now arena.old.coefs.now arena.old.room left.0 right.0)
+        arena.new.wires.now arena.new.coefs.now (formed result.0 arena.new.room) }
 {
-    Bit(b.plus(left.0, right.0))
+    Bit(arena.plus(left.0, right.0))
 }
 
 // `[count == 0]`. One op, or none if the count is constant.

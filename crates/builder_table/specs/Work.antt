@@ -3,7 +3,7 @@
 use Rattle.std.specs.Prelude.{ℕ, ◌+◌, ◌*◌, List, get_or, set, Float}
 use Rattle.std.specs.Float.{nan}
 use Rattle.wire.specs.declared.Form.{Form}
-use Rattle.arena_room.specs.declared.Room.{Room}
+use Rattle.builder_table.specs.declared.lent.Standing as lent
 
 -- ---- the table
 
@@ -34,10 +34,8 @@ abbrev pub saved : Mem → ℕ → Form → Mem
 saved m k f = mem m.wires m.coefs (saved_nums m.nums k f) (saved_biases m.biases k f)
 
 -- where building stands: the room in the arena, the ops made so far, and the input cells, past which the ops' wires follow
-pub record Standing : Type 0 where
-  pub room : Room
-  pub ops : ℕ
-  pub cells : ℕ
+abbrev pub Standing : Type 0
+Standing = lent.Standing
 
 -- what an operation leaves, where building then stands, and the form that it made
 pub record Ended : Type 0 where

@@ -11,7 +11,7 @@ ghost use Rattle.builder_table.specs.Steps.{wire_in, plus_in, scaled_in, one_min
 ghost use Rattle.builder_table.specs.Loans.{memory, standing, Makes, Leaves};
 
 use index::Wire;
-pub use lent::Builder;
+pub use lent::{Builder, Standing};
 pub use table::Table;
 use wire::Form;
 
@@ -36,6 +36,17 @@ impl Builder<'_> {
         self.nums[2 * k] = f.first;
         self.nums[2 * k + 1] = f.len;
         self.biases[k] = f.bias;
+    }
+
+    // Where building stands.
+    pub fn standing(&self) -> Standing
+        ensures { result ≡ standing self.now }
+    {
+        Standing {
+            room: self.arena.room,
+            ops: self.ops,
+            cells: self.cells,
+        }
     }
 
     // ---- forms in the arena; the table stays

@@ -2,14 +2,14 @@
 ghost use Rattle.std.specs.Prelude.{◌≡◌, ◌+◌, ◌*◌, ◌≤◌, ◌++◌, map, length, take, get_or};
 ghost use Rattle.list_text.specs.Line.{mark, marks, more, cursor_field, digit, edge_field, front, shown, refused_line};
 
-use crate::{LINE_ROOM, MOST, TickLine};
+use crate::{LINE_MOST, LINE_ROOM, TickLine};
 use text::{append, append_decimal};
 
 // A tick's line, at the front.
 #[tactic(auto, unfolding(crate::specs::Line::tick_line))]
 pub(crate) fn spell(line: &mut [u8], tick: &TickLine) -> usize
     requires room { LINE_ROOM ≤ length line.old }
-    requires few { (length tick.now.statuses.now ≤ MOST) × (length tick.now.cursors.now ≤ MOST) × (length tick.now.edges.now ≤ MOST) }
+    requires few { (length tick.now.statuses.now ≤ LINE_MOST) × (length tick.now.cursors.now ≤ LINE_MOST) × (length tick.now.edges.now ≤ LINE_MOST) }
     ensures text { take result line.new ≡ shown tick.now }
     ensures limit { result ≤ LINE_ROOM }
 {

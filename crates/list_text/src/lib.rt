@@ -14,7 +14,7 @@ pub use outer::{Outer, outer_at};
 use text::put_line;
 
 // Nodes, and so cursors and leaves, of a line at most.
-const MOST: usize = 128;
+pub const LINE_MOST: usize = 128;
 
 // Room that any line fits into.
 pub const LINE_ROOM: usize = 3072;
@@ -33,7 +33,9 @@ impl TickLine<'_> {
     fn is_listable(&self) -> bool
         ensures { result ≡ listable self.now.statuses.now self.now.cursors.now self.now.edges.now }
     {
-        self.statuses.len() <= MOST && self.cursors.len() <= MOST && self.edges.len() <= MOST
+        self.statuses.len() <= LINE_MOST
+            && self.cursors.len() <= LINE_MOST
+            && self.edges.len() <= LINE_MOST
     }
 }
 

@@ -20,7 +20,16 @@ fn lowered(tree: &[u8], storage: &mut Storage, work: &mut WorkRoom) -> Result<Co
     ensures lent { LentAs storage.old storage.new × WorkLentAs work.old work.new }
     ensures outcome { outcome_in result storage.new ≡ compile_of (lent_in storage.old work.old) tree.now }
 {
-    if !lower_emit::roomy(storage, work) {
+    if !lower_emit::roomy(
+        storage.nums.len(),
+        storage.biases.len(),
+        storage.wires.len(),
+        storage.coefs.len(),
+        work.nums.len(),
+        work.biases.len(),
+        work.wires.len(),
+        work.coefs.len(),
+    ) {
         return Err(Refusal {
             cause: Cause::ShortRoom,
             place: 0,

@@ -69,7 +69,7 @@ pub fn up_invert(b: &mut Builder, u: UpMark, i: usize) -> UpMark
     u
 }
 
-#[tactic(auto, unfolding(lower_passes::specs::Arbitrate::force_in))]
+#[tactic(auto, unfolding(lower_passes::specs::Arbitrate::force_in, status::specs::Bits::finished_in, builder_table::specs::Steps::plus_in))]
 pub fn up_force(b: &mut Builder, u: UpMark, i: usize, success: bool) -> UpMark
     requires { (i < 128) × Pass.Bounded (up_at (standing b.old) u) × (0 < u.depth) }
     ensures raised { Raises b.old b.new result (Pass.force_in (memory b.old) (up_at (standing b.old) u) i success) }
@@ -77,7 +77,7 @@ pub fn up_force(b: &mut Builder, u: UpMark, i: usize, success: bool) -> UpMark
 {
     let top = u.depth - 1;
     let x = crate::state::status_at(b, top);
-    let finished = status::finished(b, x);
+    let finished = status::finished(&mut b.arena, x);
     crate::state::put_raw(b, i, top, x.forced(own(success), finished));
     u
 }

@@ -2,6 +2,7 @@
 ghost use Rattle.std.specs.Prelude.{◌≡◌, ◌+◌, ◌*◌, ◌≤◌, ◌<◌, length};
 ghost use Rattle.wire.specs.Terms.{terms_of};
 ghost use Rattle.wire.specs.Lending.{LentAs};
+ghost use Rattle.arena_terms.specs.Steps.{Put};
 ghost use Rattle.builder_table.specs.Whole.{ops_most};
 ghost use Rattle.builder_table.specs.Loans.{memory};
 ghost use Rattle.lower_emit.specs.Emit.{row_of, output_slot, op_len, op_lens, output_lens, outputs_many, all_lens};
@@ -80,6 +81,20 @@ pub fn count_terms(b: &Builder, nodes: usize, cursors: usize) -> usize
 
 // ---- writing
 
+// Copies the terms of a form of the arena to two pools, from an index on. Term by term: of the library's copy an archive for C would need `memmove` from
+// outside.
+#[tactic(auto, using(crate::proofs::Copied::copied_end))]
+fn copy_terms(wires: &mut [u32], coefs: &mut [f32], next: usize, from: &Arena, f: Form)
+    requires inside { Inside from.now.wires.now from.now.coefs.now f }
+    requires fits { (next + f.len ≤ length wires.old) × (next + f.len ≤ length coefs.old) }
+    ensures { Put wires.old coefs.old next (terms_of from.now.wires.now from.now.coefs.now f) wires.new coefs.new (next + f.len) }
+{
+    for k in 0..f.len {
+        wires[next + k] = from.wires[f.first + k];
+        coefs[next + k] = from.coefs[f.first + k];
+    }
+}
+
 // A circuit's storage as far as it is written, and where the next form's terms go.
 #[derive(Drop)]
 struct Writer<'a, 's> {
@@ -97,13 +112,9 @@ impl Writer<'_, '_> {
         ensures biases_kept { self.new.storage.now.biases.now ≡ self.old.storage.now.biases.now }
         ensures put { Puts self.old (terms_of from.now.wires.now from.now.coefs.now f) self.new }
     {
-        let end = f.first + f.len;
-        let next = self.next;
-        let past = next + f.len;
         let storage = &mut *self.storage;
-        storage.wires[next..past].copy_from_slice(&from.wires[f.first..end]);
-        storage.coefs[next..past].copy_from_slice(&from.coefs[f.first..end]);
-        self.next = past;
+        copy_terms(storage.wires, storage.coefs, self.next, from, f);
+        self.next += f.len;
     }
 
     // A form of the arena: its range at `at`, its bias at `bias`, its terms past those written.

@@ -5,8 +5,8 @@ mod emit;
 
 ghost use Rattle.std.specs.Prelude.{◌≡◌, ◌≤◌, ◌<◌, length};
 ghost use Rattle.wire.specs.Lending.{LentAs};
+ghost use Rattle.compile.specs.Compile.{lent};
 ghost use Rattle.compile.specs.Compile.{roomy as roomyOf};
-ghost use Rattle.compile.specs.Lending.{lent_in};
 ghost use Rattle.compile.specs.Lending.{LentAs as WorkLentAs};
 ghost use Rattle.builder_table.specs.Whole.{ops_most};
 ghost use Rattle.builder_table.specs.Loans.{memory};
@@ -22,15 +22,24 @@ use wire::{Biases, Counts, Nums, Storage};
 
 // Not "work room, or any circuit storage but the op and term slots, shorter than its length in docs/".
 #[tactic(auto, unfolding(compile::specs::Compile::roomy))]
-pub fn roomy(storage: &Storage, work: &WorkRoom) -> bool
-    ensures { result ≡ roomyOf (lent_in storage.now work.now) }
+pub fn roomy(
+    nums: usize,
+    biases: usize,
+    wires: usize,
+    coefs: usize,
+    work_nums: usize,
+    work_biases: usize,
+    work_wires: usize,
+    work_coefs: usize,
+) -> bool
+    ensures { result ≡ roomyOf (lent nums biases wires coefs work_nums work_biases work_wires work_coefs) }
 {
-    Nums::OPS <= storage.nums.len()
-        && Biases::OPS <= storage.biases.len()
-        && WorkRoom::NUMS <= work.nums.len()
-        && WorkRoom::BIASES <= work.biases.len()
-        && WorkRoom::TERMS <= work.wires.len()
-        && WorkRoom::TERMS <= work.coefs.len()
+    Nums::OPS <= nums
+        && Biases::OPS <= biases
+        && WorkRoom::NUMS <= work_nums
+        && WorkRoom::BIASES <= work_biases
+        && WorkRoom::TERMS <= work_wires
+        && WorkRoom::TERMS <= work_coefs
 }
 
 // ---- zeroing

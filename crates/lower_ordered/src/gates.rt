@@ -32,13 +32,13 @@ fn gate_one(b: &mut Builder, cursor: Count, passes: Bit, k: usize)
     block_one(b, later, passes, k);
 }
 
-#[tactic(auto, unfolding(lower_passes::specs::Gates::block_in))]
+#[tactic(auto, unfolding(lower_passes::specs::Gates::block_in, builder_table::specs::Steps::one_minus_in))]
 fn block_one(b: &mut Builder, later: Bit, passes: Bit, k: usize)
     requires { k < 128 }
     ensures { Leaves b.old b.new (block_in (memory b.old) (standing b.old) later.0 passes.0 k) }
 {
     let passed = builder::or(b, later, passes);
-    let blocked = builder::not(b, passed);
+    let blocked = builder::not(&mut b.arena, passed);
     b.save(Table::BLOCKED + k, blocked.0);
 }
 

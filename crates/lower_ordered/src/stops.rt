@@ -29,14 +29,14 @@ pub fn stops(b: &mut Builder, row: usize, n: usize) -> Form
     sum
 }
 
-#[tactic(auto, unfolding(lower_passes::specs::Stops::reach_in))]
+#[tactic(auto, unfolding(lower_passes::specs::Stops::reach_in, builder_table::specs::Steps::one_minus_in))]
 fn reach_one(b: &mut Builder, k: usize, row: usize)
     requires { (k < 128) × (row < 128) }
     ensures { Leaves b.old b.new (reach_in (memory b.old) (standing b.old) k row) }
 {
     let clear = Bit(b.load(Table::CLEAR + k));
     let before = Bit(b.load(Table::BEFORE + k));
-    let ahead = builder::not(b, before);
+    let ahead = builder::not(&mut b.arena, before);
     let reach = builder::and(b, clear, ahead);
     b.save(Table::REACH + row, reach.0);
 }

@@ -32,13 +32,13 @@ pub fn halt_one(b: &mut Builder, reached: Bit, called: Bit, i: usize) -> Bit
 }
 
 // Untouched: neither reached nor halted.
-#[tactic(auto, unfolding(lower_passes::specs::Reach::untouched_in))]
+#[tactic(auto, unfolding(lower_passes::specs::Reach::untouched_in, builder_table::specs::Steps::one_minus_in))]
 pub fn untouched_one(b: &mut Builder, reached: Bit, halted: Bit, i: usize)
     requires { i < 128 }
     ensures { Leaves b.old b.new (untouched_in (memory b.old) (standing b.old) reached.0 halted.0 i) }
 {
-    let not_reached = builder::not(b, reached);
-    let not_halted = builder::not(b, halted);
+    let not_reached = builder::not(&mut b.arena, reached);
+    let not_halted = builder::not(&mut b.arena, halted);
     let untouched = builder::and(b, not_reached, not_halted);
     b.save(Table::UNTOUCHED + i, untouched.0);
 }

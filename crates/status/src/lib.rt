@@ -2,12 +2,13 @@
 #![tactic(auto)]
 
 ghost use Rattle.std.specs.Prelude.{◌≡◌, true};
-ghost use Rattle.builder_table.specs.Loans.{memory, standing, Makes};
-ghost use Rattle.status.specs.Bits.{unticked_bits, with_bit, inverted_bits, finished_in, forced_bits};
+ghost use Rattle.arena.specs.Arena.{formed, Leaves, plus_in};
+ghost use Rattle.arena.specs.Loans.{LentAs};
+ghost use Rattle.status.specs.Bits.{unticked_bits, with_bit, inverted_bits, forced_bits};
 ghost use Rattle.builder.specs.Bits.{bit_form};
 
+use arena::Arena;
 use builder::Bit;
-use builder_table::Builder;
 
 #[derive(Clone, Copy)]
 pub enum Status {
@@ -88,10 +89,11 @@ impl StatusBits {
     }
 }
 
-// Whether the node finished: the sum of success and failure. No op.
-#[tactic(auto, unfolding(crate::specs::Bits::finished_in))]
-pub fn finished(b: &mut Builder, status: StatusBits) -> Bit
-    ensures { Makes b.old b.new result.0 (finished_in (memory b.old) (standing b.old) status) }
+// Whether the node finished: the sum of success and failure. No op, so that no table is asked for.
+pub fn finished(arena: &mut Arena, status: StatusBits) -> Bit
+    ensures lent { LentAs arena.old arena.new }
+    ensures leaves { Leaves (plus_in arena.old.wires.now arena.old.coefs.now arena.old.room status.success.0 status.failure.0)
+        arena.new.wires.now arena.new.coefs.now (formed result.0 arena.new.room) }
 {
-    builder::or_disjoint(b, status.success, status.failure)
+    builder::or_disjoint(arena, status.success, status.failure)
 }

@@ -6,7 +6,7 @@ ghost use Rattle.wire.specs.Storage.{ops_from, output_count};
 ghost use Rattle.tick_check.specs.Check.{stored_in, pairs, rises_below, each_once, circuit_ok};
 ghost use Rattle.tick_check.specs.Parts.{Sized, sizes_ok, coefs_ok, biases_ok, floats_ok, range_ok, op_ranges, ops_range, outs_range, lists_ok, contents_ok};
 
-use wire::{Biases, Circuit, Counts, Nums, Op};
+use wire::{Biases, Circuit, Counts, Nums, Op, Pools};
 
 // Whether each entry but the last is below the one after it. No way leads out of the loop, so that it is done many at a time.
 #[tactic(auto, unfolding(crate::specs::Check::pairs, lists::specs::All::all))]
@@ -186,5 +186,14 @@ fn contents_ok(circuit: &Circuit) -> bool
 pub fn is_circuit(circuit: &Circuit) -> bool
     ensures { result ≡ circuit_ok (stored_in circuit.now) }
 {
-    sizes_ok(circuit.counts) && wire::storage_holds(circuit) && contents_ok(circuit)
+    let Pools { wires, coefs } = circuit.pools;
+    sizes_ok(circuit.counts)
+        && wire::storage_holds(
+            circuit.counts,
+            circuit.nums.len(),
+            circuit.biases.len(),
+            wires.len(),
+            coefs.len(),
+        )
+        && contents_ok(circuit)
 }

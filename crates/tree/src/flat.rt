@@ -6,8 +6,14 @@ ghost use Rattle.tree.specs.Tree.{tree_of, flat_of, answer_of, kinds_in, counts_
 use index::NodeIndex;
 use tree_record::{Cause, Node, Refusal, read_record};
 
-// "At most 16 levels", the root being level 1.
-const LEVELS: usize = 16;
+// A node's level, the root's being 1.
+#[derive(Clone, Copy)]
+pub struct Level(pub usize);
+
+impl Level {
+    // "At most 16 levels": the last level that a node may have.
+    pub const LIMIT: usize = 16;
+}
 
 // Writes the kinds and child counts of a tree's nodes in pre-order, and answers how many nodes there are. Unused slots are left zero, and all of them
 // where the tree is refused.
@@ -43,7 +49,7 @@ fn read_tree(bytes: &[u8], kinds: &mut [u8], counts: &mut [u16]) -> Result<usize
     // How many children of each open ancestor are still to be read, the root counting as the one child of nothing. A node's level is the
     // number of these, and level 17 is read before it is refused.
     // A `while`, since how many turns it takes is what the bytes say.
-    let mut pend = [0u16; LEVELS + 1];
+    let mut pend = [0u16; Level::LIMIT + 1];
     pend[0] = 1;
     let mut depth: usize = 1;
     let mut at: usize = 0;
@@ -81,7 +87,7 @@ fn limited(bytes: &[u8], at: usize, node: usize, level: usize) -> Result<Node, C
     ensures { result ≡ limited (record_at bytes.now at) node level }
 {
     let found = read_record(bytes, at)?;
-    if level > LEVELS {
+    if level > Level::LIMIT {
         return Err(Cause::TooDeep);
     }
     if node >= NodeIndex::LIMIT {

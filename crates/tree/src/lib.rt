@@ -3,4 +3,4 @@
 
 mod flat;
 
-pub use flat::flatten;
+pub use flat::{Level, flatten};

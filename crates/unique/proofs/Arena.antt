@@ -18,10 +18,10 @@ use Prim.Native.Nat.{ℕ}
 use lib.Ieee.{Float}
 use Rattle.wire.specs.declared.Form.{Form}
 use Rattle.wire.specs.declared.Term.{Term}
-use Rattle.arena_room.specs.declared.Room.{Room}
 use Rattle.arena_terms.specs.Steps.{Put}
 use Rattle.arena.specs.declared.Arena.{Arena}
 use Rattle.arena.specs.Arena.{Outcome, Leaves, formed}
+use Rattle.arena.specs.Loans.{LentAs}
 use Rattle.arena_room.proofs.Room.refuse as refuse
 use Rattle.arena_room.specs.contracts.Room.refuse as refuse_contract
 use Rattle.arena_room.proofs.Room.take as take
@@ -47,7 +47,7 @@ use Rattle.arena.specs.contracts.Arena.scaled as scaled_contract
 use Rattle.arena.proofs.Arena.one_minus as one_minus
 use Rattle.arena.specs.contracts.Arena.one_minus as one_minus_contract
 use Rattle.unique.specs.One.{One, OneLeft}
-use Rattle.unique.specs.Left.{pools}
+use Rattle.unique.specs.Left.{Pooled, pools}
 
 -- ---- room
 
@@ -83,18 +83,21 @@ one_scaling κs a x y u v p q = put p q
 pub one_offset : One offset_contract.ended offset.Reads.Post
 one_offset κs a x y u v p q = (p ∙⁻¹ q, refl)
 
-made : {o : Outcome} (a b : Arena) {x y : Form} → Leaves o a.wires.now a.coefs.now (formed x a.room) → Leaves o b.wires.now b.coefs.now (formed y b.room)
-    → (x ≡ y) × (pools a ≡ pools b)
-made a b p q = (p.form ∙⁻¹ q.form, λ i. ((p.wires ∙⁻¹ q.wires) i, ((p.coefs ∙⁻¹ q.coefs) i, (p.room ∙⁻¹ q.room) i)))
+pub made : {o : Outcome} (d a b : Arena) {x y : Form} → LentAs d a → LentAs d b
+    → Leaves o a.wires.now a.coefs.now (formed x a.room) → Leaves o b.wires.now b.coefs.now (formed y b.room) → (x ≡ y) × (pools a ≡ pools b)
+made d a b l m p q = (
+  p.form ∙⁻¹ q.form,
+  λ i. (((l.0 ∙⁻¹ m.0) i, (l.1 ∙⁻¹ m.1) i), ((p.wires ∙⁻¹ q.wires) i, ((p.coefs ∙⁻¹ q.coefs) i, (p.room ∙⁻¹ q.room) i))),
+)
 
-pub one_single : OneLeft single_contract.ended single.Reads.Post (List ℕ × (List Float × Room)) (λ κs a u. pools u.0)
-one_single κs a x y u v p q = made u.0 v.0 p.1 q.1
+pub one_single : OneLeft single_contract.ended single.Reads.Post Pooled (λ κs a u. pools u.0)
+one_single κs a x y u v p q = made a.0.now u.0 v.0 p.0 q.0 p.1 q.1
 
-pub one_plus : OneLeft plus_contract.ended plus.Reads.Post (List ℕ × (List Float × Room)) (λ κs a u. pools u.0)
-one_plus κs a x y u v p q = made u.0 v.0 p.1 q.1
+pub one_plus : OneLeft plus_contract.ended plus.Reads.Post Pooled (λ κs a u. pools u.0)
+one_plus κs a x y u v p q = made a.0.now u.0 v.0 p.0 q.0 p.1 q.1
 
-pub one_scaled : OneLeft scaled_contract.ended scaled.Reads.Post (List ℕ × (List Float × Room)) (λ κs a u. pools u.0)
-one_scaled κs a x y u v p q = made u.0 v.0 p.1 q.1
+pub one_scaled : OneLeft scaled_contract.ended scaled.Reads.Post Pooled (λ κs a u. pools u.0)
+one_scaled κs a x y u v p q = made a.0.now u.0 v.0 p.0 q.0 p.1 q.1
 
-pub one_one_minus : OneLeft one_minus_contract.ended one_minus.Reads.Post (List ℕ × (List Float × Room)) (λ κs a u. pools u.0)
-one_one_minus κs a x y u v p q = made u.0 v.0 p.1 q.1
+pub one_one_minus : OneLeft one_minus_contract.ended one_minus.Reads.Post Pooled (λ κs a u. pools u.0)
+one_one_minus κs a x y u v p q = made a.0.now u.0 v.0 p.0 q.0 p.1 q.1

@@ -8,9 +8,10 @@
 --   builder_table: Builder::one_minus   one_minus_in, specs/Steps
 --   builder_table: Builder::push        push_in, specs/Steps
 --   builder_table: Builder::full        full_in, specs/Steps
+--   builder_table: Builder::standing    standing, specs/Loans
 --   builder: Bit::constant              bit_form, specs/Bits
---   builder: not                        one_minus_in, builder_table specs/Steps
---   builder: or_disjoint                plus_in, builder_table specs/Steps
+--   builder: not                        one_minus_in, arena specs/Arena
+--   builder: or_disjoint                plus_in, arena specs/Arena
 --   builder: is_zero                    is_zero_in, specs/Bits
 --   builder: at_least                   at_least_in, specs/Bits
 --   builder: and                        and_in, specs/Bits
@@ -20,13 +21,19 @@
 --   status: StatusBits::with            with_bit, specs/Bits
 --   status: StatusBits::inverted        inverted_bits, specs/Bits
 --   status: StatusBits::forced          forced_bits, specs/Bits
---   status: finished                    finished_in, specs/Bits
+--   status: finished                    plus_in, arena specs/Arena
 use mathlib.Core.Path.{◌≡◌, refl, ◌∙⁻¹◌}
 use Rattle.wire.specs.declared.Form.{Form}
 use Rattle.builder_table.specs.declared.lent.Builder.{Builder}
 use Rattle.builder_table.specs.Work.{Ended, Stood, stood}
-use Rattle.builder_table.specs.Loans.{Makes, Leaves}
+use Rattle.builder_table.specs.Loans.{LentAs, Makes, Leaves}
 use Rattle.builder.specs.declared.Bit.{Bit}
+use Rattle.arena.specs.declared.Arena.{Arena}
+use Rattle.arena.specs.Arena.{Outcome, formed, Leaves as ArenaLeaves}
+use Rattle.arena.specs.Loans.{LentAs as ArenaLentAs}
+use Rattle.unique.proofs.Arena.{made as arena_made}
+use Rattle.builder_table.proofs.Builder.standing as standing
+use Rattle.builder_table.specs.contracts.Builder.standing as standing_contract
 use Rattle.builder_table.proofs.Builder.load as load
 use Rattle.builder_table.specs.contracts.Builder.load as load_contract
 use Rattle.builder_table.proofs.Builder.save as save
@@ -70,43 +77,53 @@ use Rattle.status.specs.contracts.StatusBits.forced as forced_contract
 use Rattle.status.proofs.finished
 use Rattle.status.specs.contracts.finished as finished_contract
 use Rattle.unique.specs.One.{One, OneLeft}
-use Rattle.unique.specs.Left.{built}
+use Rattle.unique.specs.Left.{Built, built, Pooled, pools}
 
 -- ---- what is made, or decided, and what is left
 
-pub made : {a a' b c : Builder} {f g : Form} {o : Ended} → Makes a b f o → Makes a' c g o → (f ≡ g) × (built b ≡ built c)
-made p q = let same = p.made ∙⁻¹ q.made in (λ i. (same i).form, λ i. stood (same i).mem (same i).builder)
+-- what is lent stays lent: its names
+pub names : (a b c : Builder) → LentAs a b → LentAs a c → (built b).0 ≡ (built c).0
+names a b c p q = λ i. ((p.0.0 ∙⁻¹ q.0.0) i, ((p.0.1 ∙⁻¹ q.0.1) i, ((p.1 ∙⁻¹ q.1) i, (p.2 ∙⁻¹ q.2) i)))
 
-pub decided : {a a' b c : Builder} {f g : Bit} {o : Ended} → Makes a b f.0 o → Makes a' c g.0 o → (f ≡ g) × (built b ≡ built c)
+pub made : {a b c : Builder} {f g : Form} {o : Ended} → Makes a b f o → Makes a c g o → (f ≡ g) × (built b ≡ built c)
+made {a = a} {b = b} {c = c} p q =
+    let same = p.made ∙⁻¹ q.made in
+    let named = names a b c p.lent q.lent in
+    (λ i. (same i).form, λ i. (named i, stood (same i).mem (same i).builder))
+
+pub decided : {a b c : Builder} {f g : Bit} {o : Ended} → Makes a b f.0 o → Makes a c g.0 o → (f ≡ g) × (built b ≡ built c)
 decided p q = let same = made p q in (λ i. record { 0 = same.0 i }, same.1)
 
-pub left : {a a' b c : Builder} {o : Stood} → Leaves a b o → Leaves a' c o → built b ≡ built c
-left p q = p.left ∙⁻¹ q.left
+pub left : {a b c : Builder} {o : Stood} → Leaves a b o → Leaves a c o → built b ≡ built c
+left {a = a} {b = b} {c = c} p q = let same = p.left ∙⁻¹ q.left in let named = names a b c p.lent q.lent in λ i. (named i, same i)
 
 -- ---- builder_table
 
 pub one_load : One load_contract.ended load.Reads.Post
 one_load κs a x y u v p q = (p ∙⁻¹ q, refl)
 
-pub one_save : OneLeft save_contract.ended save.Reads.Post Stood (λ κs a u. built u.0)
+pub one_save : OneLeft save_contract.ended save.Reads.Post Built (λ κs a u. built u.0)
 one_save κs a x y u v p q = (refl, left p q)
 
-pub one_wire_form : OneLeft wire_form_contract.ended wire_form.Reads.Post Stood (λ κs a u. built u.0)
+pub one_wire_form : OneLeft wire_form_contract.ended wire_form.Reads.Post Built (λ κs a u. built u.0)
 one_wire_form κs a x y u v p q = made p q
 
-pub one_plus : OneLeft plus_contract.ended plus.Reads.Post Stood (λ κs a u. built u.0)
+pub one_plus : OneLeft plus_contract.ended plus.Reads.Post Built (λ κs a u. built u.0)
 one_plus κs a x y u v p q = made p q
 
-pub one_scaled : OneLeft scaled_contract.ended scaled.Reads.Post Stood (λ κs a u. built u.0)
+pub one_scaled : OneLeft scaled_contract.ended scaled.Reads.Post Built (λ κs a u. built u.0)
 one_scaled κs a x y u v p q = made p q
 
-pub one_one_minus : OneLeft one_minus_contract.ended one_minus.Reads.Post Stood (λ κs a u. built u.0)
+pub one_one_minus : OneLeft one_minus_contract.ended one_minus.Reads.Post Built (λ κs a u. built u.0)
 one_one_minus κs a x y u v p q = made p q
 
-pub one_push : OneLeft push_contract.ended push.Reads.Post Stood (λ κs a u. built u.0)
+pub one_push : OneLeft push_contract.ended push.Reads.Post Built (λ κs a u. built u.0)
 one_push κs a x y u v p q = made p q
 
-pub one_full : OneLeft full_contract.ended full.Reads.Post Stood (λ κs a u. built u.0)
+pub one_standing : One standing_contract.ended standing.Reads.Post
+one_standing κs a x y u v p q = (p ∙⁻¹ q, refl)
+
+pub one_full : OneLeft full_contract.ended full.Reads.Post Built (λ κs a u. built u.0)
 one_full κs a x y u v p q = made p q
 
 -- ---- builder
@@ -114,22 +131,28 @@ one_full κs a x y u v p q = made p q
 pub one_constant_bit : One constant_bit_contract.ended constant_bit.Reads.Post
 one_constant_bit κs a x y u v p q = (λ i. record { 0 = (p ∙⁻¹ q) i }, refl)
 
-pub one_not : OneLeft not_contract.ended not.Reads.Post Stood (λ κs a u. built u.0)
-one_not κs a x y u v p q = decided p q
+-- a bit made in the arena
+bit_made : {o : Outcome} (d a b : Arena) {x y : Bit} → ArenaLentAs d a → ArenaLentAs d b
+    → ArenaLeaves o a.wires.now a.coefs.now (formed x.0 a.room) → ArenaLeaves o b.wires.now b.coefs.now (formed y.0 b.room)
+    → (x ≡ y) × (pools a ≡ pools b)
+bit_made d a b l m p q = let same = arena_made d a b l m p q in (λ i. record { 0 = same.0 i }, same.1)
 
-pub one_or_disjoint : OneLeft or_disjoint_contract.ended or_disjoint.Reads.Post Stood (λ κs a u. built u.0)
-one_or_disjoint κs a x y u v p q = decided p q
+pub one_not : OneLeft not_contract.ended not.Reads.Post Pooled (λ κs a u. pools u.0)
+one_not κs a x y u v p q = bit_made a.0.now u.0 v.0 p.0 q.0 p.1 q.1
 
-pub one_is_zero : OneLeft is_zero_contract.ended is_zero.Reads.Post Stood (λ κs a u. built u.0)
+pub one_or_disjoint : OneLeft or_disjoint_contract.ended or_disjoint.Reads.Post Pooled (λ κs a u. pools u.0)
+one_or_disjoint κs a x y u v p q = bit_made a.0.now u.0 v.0 p.0 q.0 p.1 q.1
+
+pub one_is_zero : OneLeft is_zero_contract.ended is_zero.Reads.Post Built (λ κs a u. built u.0)
 one_is_zero κs a x y u v p q = decided p q
 
-pub one_at_least : OneLeft at_least_contract.ended at_least.Reads.Post Stood (λ κs a u. built u.0)
+pub one_at_least : OneLeft at_least_contract.ended at_least.Reads.Post Built (λ κs a u. built u.0)
 one_at_least κs a x y u v p q = decided p q
 
-pub one_and : OneLeft and_contract.ended and.Reads.Post Stood (λ κs a u. built u.0)
+pub one_and : OneLeft and_contract.ended and.Reads.Post Built (λ κs a u. built u.0)
 one_and κs a x y u v p q = decided p q
 
-pub one_or : OneLeft or_contract.ended or.Reads.Post Stood (λ κs a u. built u.0)
+pub one_or : OneLeft or_contract.ended or.Reads.Post Built (λ κs a u. built u.0)
 one_or κs a x y u v p q = decided p q
 
 -- ---- status
@@ -149,5 +172,5 @@ one_inverted κs a x y u v p q = (p ∙⁻¹ q, refl)
 pub one_forced : One forced_contract.ended forced.Reads.Post
 one_forced κs a x y u v p q = (p ∙⁻¹ q, refl)
 
-pub one_finished : OneLeft finished_contract.ended finished.Reads.Post Stood (λ κs a u. built u.0)
-one_finished κs a x y u v p q = decided p q
+pub one_finished : OneLeft finished_contract.ended finished.Reads.Post Pooled (λ κs a u. pools u.0)
+one_finished κs a x y u v p q = bit_made a.0.now u.0 v.0 p.0 q.0 p.1 q.1

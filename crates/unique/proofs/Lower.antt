@@ -11,7 +11,7 @@
 --   lower_build: build *                build_in, lower_passes specs/Build
 use mathlib.Core.Path.{◌≡◌, refl, ◌∙⁻¹◌}
 use Rattle.builder_table.specs.declared.lent.Builder.{Builder}
-use Rattle.builder_table.specs.Work.{Stood, stood}
+use Rattle.builder_table.specs.Work.{stood}
 use Rattle.lower_passes.specs.declared.Decision.{Decision}
 use Rattle.lower_passes.specs.declared.UpMark.{UpMark}
 use Rattle.lower_passes.specs.declared.DownMark.{DownMark}
@@ -38,55 +38,55 @@ use Rattle.lower_reach.specs.contracts.reach as reach_contract
 use Rattle.lower_build.proofs.build
 use Rattle.lower_build.specs.contracts.build as build_contract
 use Rattle.unique.specs.One.{OneLeft}
-use Rattle.unique.specs.Left.{built}
-use Rattle.unique.proofs.Builder.{decided, left}
+use Rattle.unique.specs.Left.{Built, built}
+use Rattle.unique.proofs.Builder.{names, decided, left}
 
 -- ---- what a step of a pass answers, and what is left
 
-orders : {a a' b c : Builder} {d e : Decision} {o : Ordains} → Decides a b d o → Decides a' c e o → (d ≡ e) × (built b ≡ built c)
-orders p q =
-    let same = p.made ∙⁻¹ q.made in (
+orders : {a b c : Builder} {d e : Decision} {o : Ordains} → Decides a b d o → Decides a c e o → (d ≡ e) × (built b ≡ built c)
+orders {a = a} {b = b} {c = c} p q =
+    let same = p.made ∙⁻¹ q.made in let named = names a b c p.lent q.lent in (
       λ i. record { advance = (same i).ordered.advance; other = (same i).ordered.other; run = (same i).ordered.run; cursor = (same i).ordered.cursor },
-      λ i. stood (same i).mem (same i).ordered.builder,
+      λ i. (named i, stood (same i).mem (same i).ordered.builder),
     )
 
-lowers : {a a' b c : Builder} {d e : DownMark} {o : Lowered} → Lowers a b d o → Lowers a' c e o → (d ≡ e) × (built b ≡ built c)
-lowers p q =
-    let same = p.made ∙⁻¹ q.made in
-    (λ i. record { depth = (same i).down.depth; row = (same i).down.row; cell = (same i).down.cell }, λ i. stood (same i).mem (same i).down.builder)
+lowers : {a b c : Builder} {d e : DownMark} {o : Lowered} → Lowers a b d o → Lowers a c e o → (d ≡ e) × (built b ≡ built c)
+lowers {a = a} {b = b} {c = c} p q =
+    let same = p.made ∙⁻¹ q.made in let named = names a b c p.lent q.lent in
+    (λ i. record { depth = (same i).down.depth; row = (same i).down.row; cell = (same i).down.cell }, λ i. (named i, stood (same i).mem (same i).down.builder))
 
-raises : {a a' b c : Builder} {d e : UpMark} {o : Raised} → Raises a b d o → Raises a' c e o → (d ≡ e) × (built b ≡ built c)
-raises p q =
-    let same = p.made ∙⁻¹ q.made in (
+raises : {a b c : Builder} {d e : UpMark} {o : Raised} → Raises a b d o → Raises a c e o → (d ≡ e) × (built b ≡ built c)
+raises {a = a} {b = b} {c = c} p q =
+    let same = p.made ∙⁻¹ q.made in let named = names a b c p.lent q.lent in (
       λ i. record { depth = (same i).up.depth; row = (same i).up.row; slot = (same i).up.slot; cell = (same i).up.cell },
-      λ i. stood (same i).mem (same i).up.builder,
+      λ i. (named i, stood (same i).mem (same i).up.builder),
     )
 
 -- ---- the passes
 
-pub one_ordered : OneLeft lower_ordered_contract.ended lower_ordered.Reads.Post Stood (λ κs a u. built u.0)
+pub one_ordered : OneLeft lower_ordered_contract.ended lower_ordered.Reads.Post Built (λ κs a u. built u.0)
 one_ordered κs a x y u v p q = orders p q
 
-pub one_arbitration : OneLeft arbitrate_contract.ended arbitrate.Reads.Post Stood (λ κs a u. built u.0)
+pub one_arbitration : OneLeft arbitrate_contract.ended arbitrate.Reads.Post Built (λ κs a u. built u.0)
 one_arbitration κs a x y u v p q = raises p.0 q.0
 
-pub one_entry : OneLeft put_entry_contract.ended put_entry.Reads.Post Stood (λ κs a u. built u.0)
+pub one_entry : OneLeft put_entry_contract.ended put_entry.Reads.Post Built (λ κs a u. built u.0)
 one_entry κs a x y u v p q = (refl, left p q)
 
-pub one_halt : OneLeft halt_one_contract.ended halt_one.Reads.Post Stood (λ κs a u. built u.0)
+pub one_halt : OneLeft halt_one_contract.ended halt_one.Reads.Post Built (λ κs a u. built u.0)
 one_halt κs a x y u v p q = decided p q
 
-pub one_untouched : OneLeft untouched_one_contract.ended untouched_one.Reads.Post Stood (λ κs a u. built u.0)
+pub one_untouched : OneLeft untouched_one_contract.ended untouched_one.Reads.Post Built (λ κs a u. built u.0)
 one_untouched κs a x y u v p q = (refl, left p q)
 
-pub one_next_running : OneLeft next_running_contract.ended next_running.Reads.Post Stood (λ κs a u. built u.0)
+pub one_next_running : OneLeft next_running_contract.ended next_running.Reads.Post Built (λ κs a u. built u.0)
 one_next_running κs a x y u v p q = (refl, left p q)
 
-pub one_next_cursor : OneLeft next_cursor_contract.ended next_cursor.Reads.Post Stood (λ κs a u. built u.0)
+pub one_next_cursor : OneLeft next_cursor_contract.ended next_cursor.Reads.Post Built (λ κs a u. built u.0)
 one_next_cursor κs a x y u v p q = (refl, left p q)
 
-pub one_reach : OneLeft reach_contract.ended reach.Reads.Post Stood (λ κs a u. built u.0)
+pub one_reach : OneLeft reach_contract.ended reach.Reads.Post Built (λ κs a u. built u.0)
 one_reach κs a x y u v p q = lowers p q
 
-pub one_build : OneLeft build_contract.ended build.Reads.Post Stood (λ κs a u. built u.0)
+pub one_build : OneLeft build_contract.ended build.Reads.Post Built (λ κs a u. built u.0)
 one_build κs a x y u v p q = (refl, left p q)

@@ -11,8 +11,7 @@
 --   tick_report: ticked              ticked_of, specs/Report
 --   tick_report: halts               halts_of, specs/Report
 --   validate: validate               validate_of, specs/Validate
-use mathlib.Core.Path.{refl, ◌∙⁻¹◌}
-use Rattle.tick_lane.specs.Lane.{Lent}
+use mathlib.Core.Path.{◌≡◌, refl, ◌∙⁻¹◌}
 use Rattle.tick_check.proofs.is_circuit
 use Rattle.tick_check.specs.contracts.is_circuit as is_circuit_contract
 use Rattle.tick_verdict.proofs.values_verdict
@@ -35,8 +34,10 @@ use Rattle.tick_report.proofs.halts
 use Rattle.tick_report.specs.contracts.halts as halts_contract
 use Rattle.validate.proofs.validate
 use Rattle.validate.specs.contracts.validate as validate_contract
-use Rattle.tick_lane.specs.Loans.{lent_in}
+use Rattle.tick_lane.specs.declared.lent.Lane.{Lane}
+use Rattle.tick_lane.specs.Loans.{LentAs}
 use Rattle.unique.specs.One.{One, OneLeft}
+use Rattle.unique.specs.Left.{Laid, in_lane}
 
 pub one_check : One is_circuit_contract.ended is_circuit.Reads.Post
 one_check κs a x y u v p q = (p ∙⁻¹ q, refl)
@@ -50,11 +51,16 @@ one_tick_verdict κs a x y u v p q = (p ∙⁻¹ q, refl)
 pub one_outs : One read_outs_contract.ended read_outs.Reads.Post
 one_outs κs a x y u v p q = (refl, λ i. (tt, (tt, ((p ∙⁻¹ q) i, tt))))
 
-pub one_lane : OneLeft lane_contract.ended lane.Reads.Post Lent (λ κs a u. lent_in u.1.1.0)
-one_lane κs a x y u v p q = let same = p.1 ∙⁻¹ q.1 in (λ i. (same i).answer, λ i. (same i).left)
+-- what is lent stays lent: its names
+lane_names : (a b c : Lane) → LentAs a b → LentAs a c → (in_lane b).0 ≡ (in_lane c).0
+lane_names a b c p q =
+    λ i. (((p.0 ∙⁻¹ q.0) i, ((p.1 ∙⁻¹ q.1) i, (p.2 ∙⁻¹ q.2) i)), ((p.3 ∙⁻¹ q.3) i, ((p.4 ∙⁻¹ q.4) i, (p.5 ∙⁻¹ q.5) i)))
 
-pub one_tick : OneLeft tick_contract.ended tick.Reads.Post Lent (λ κs a u. lent_in u.1.1.0)
-one_tick κs a x y u v p q = let same = p.1 ∙⁻¹ q.1 in (λ i. (same i).answer, λ i. (same i).left)
+pub one_lane : OneLeft lane_contract.ended lane.Reads.Post Laid (λ κs a u. in_lane u.1.1.0)
+one_lane κs a x y u v p q = let same = p.1 ∙⁻¹ q.1 in (λ i. (same i).answer, λ i. (lane_names a.1.1.0.now u.1.1.0 v.1.1.0 p.0 q.0 i, (same i).left))
+
+pub one_tick : OneLeft tick_contract.ended tick.Reads.Post Laid (λ κs a u. in_lane u.1.1.0)
+one_tick κs a x y u v p q = let same = p.1 ∙⁻¹ q.1 in (λ i. (same i).answer, λ i. (lane_names a.1.1.0.now u.1.1.0 v.1.1.0 p.0 q.0 i, (same i).left))
 
 pub one_of_validated : One of_validated_contract.ended of_validated.Reads.Post
 one_of_validated κs a x y u v p q = (p ∙⁻¹ q, refl)

@@ -16,19 +16,23 @@ Lifetimes T = Lfts T.signature.lifetimes
 abbrev pub Contract : Ended → Type 1
 Contract T = (κs : Lifetimes T) → Args T.signature κs → Res T.signature κs → AtExit T κs → Type 0
 
--- Any two outcomes that a contract permits for the same arguments coincide: what is seen of the answers x and y; and u and v, the last contents of
--- all that is lent as `&mut`. Nothing can change what is lent as `&` or passed by value.
-abbrev pub OneSeen : (T : Ended) → Contract T → (S : Lifetimes T → Type 0) → ((κs : Lifetimes T) → Res T.signature κs → S κs) → Type 0
-OneSeen T Post S see =
+-- Any two outcomes that a contract permits for the same arguments coincide: what is seen of the answers x and y; and what is seen of u and v, the
+-- last contents of all that is lent as `&mut`. Nothing can change what is lent as `&` or passed by value.
+abbrev pub OneOf : (T : Ended) → Contract T → (S : Lifetimes T → Type 0) → ((κs : Lifetimes T) → Res T.signature κs → S κs)
+    → (L : (κs : Lifetimes T) → Args T.signature κs → Type 0) → ((κs : Lifetimes T) (a : Args T.signature κs) → Lasts T κs a → L κs a) → Type 0
+OneOf T Post S see L left =
     (κs : Lifetimes T) (a : Args T.signature κs) (x y : Res T.signature κs) (u v : Lasts T κs a)
-    → Post κs a x (at_exit T κs a u) → Post κs a y (at_exit T κs a v) → (see κs x ≡ see κs y) × (u ≡ v)
+    → Post κs a x (at_exit T κs a u) → Post κs a y (at_exit T κs a v) → (see κs x ≡ see κs y) × (left κs a u ≡ left κs a v)
 
--- the answers whole. Floats are those of lib.Ieee, which has one NaN: there is nothing to except.
+-- the last contents whole
+abbrev pub OneSeen : (T : Ended) → Contract T → (S : Lifetimes T → Type 0) → ((κs : Lifetimes T) → Res T.signature κs → S κs) → Type 0
+OneSeen T Post S see = OneOf T Post S see (Lasts T) (λ κs a u. u)
+
+-- the answers whole too. Floats are those of lib.Ieee, which has one NaN: there is nothing to except.
 abbrev pub One : (T : Ended) → Contract T → Type 0
 One T Post = OneSeen T Post (Res T.signature) (λ κs x. x)
 
--- The same where a struct of lent slices is lent: seen of its last value is what the slices hold, and its other fields. Where a slice lies is not seen.
+-- The same where a struct of lent slices is lent: specs/Left has what is seen of its last value, which slices they are and what each holds. The
+-- address of a slice, which its name determines, is not seen.
 abbrev pub OneLeft : (T : Ended) → Contract T → (L : Type 0) → ((κs : Lifetimes T) (a : Args T.signature κs) → Lasts T κs a → L) → Type 0
-OneLeft T Post L left =
-    (κs : Lifetimes T) (a : Args T.signature κs) (x y : Res T.signature κs) (u v : Lasts T κs a)
-    → Post κs a x (at_exit T κs a u) → Post κs a y (at_exit T κs a v) → (x ≡ y) × (left κs a u ≡ left κs a v)
+OneLeft T Post L left = OneOf T Post (Res T.signature) (λ κs x. x) (λ κs a. L) left

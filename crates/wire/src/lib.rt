@@ -5,8 +5,7 @@ mod storage;
 
 ghost use Rattle.std.specs.Prelude.{◌≡◌};
 ghost use Rattle.wire.specs.Terms.{constant_form, look_up};
-ghost use Rattle.wire.specs.Storage.{op_slots, term_slots};
-ghost use Rattle.wire.specs.Circuit.{storage_holds_in};
+ghost use Rattle.wire.specs.Storage.{op_slots, term_slots, storage_holds};
 
 use index::Wire;
 pub use storage::Storage;
@@ -141,16 +140,13 @@ pub fn term_slots(wires: usize, coefs: usize) -> usize
     wires.min(coefs)
 }
 
-// Whether the circuit's storage holds its counts.
+// Whether storage of these lengths holds the counts.
 #[tactic(auto, unfolding(crate::specs::Storage::storage_holds))]
-pub fn storage_holds(circuit: &Circuit) -> bool
-    ensures { result ≡ storage_holds_in circuit.now }
+pub fn storage_holds(counts: Counts, nums: usize, biases: usize, wires: usize, coefs: usize) -> bool
+    ensures { result ≡ storage_holds counts nums biases wires coefs }
 {
-    let nums = circuit.nums.len();
-    let biases = circuit.biases.len();
-    let Pools { wires, coefs } = circuit.pools;
     Nums::OPS <= nums
         && Biases::OPS <= biases
-        && circuit.counts.ops <= op_slots(nums, biases)
-        && circuit.counts.terms <= term_slots(wires.len(), coefs.len())
+        && counts.ops <= op_slots(nums, biases)
+        && counts.terms <= term_slots(wires, coefs)
 }

