@@ -81,21 +81,32 @@ use Rattle.unique.specs.Left.{Built, built, Pooled, pools}
 
 -- ---- what is made, or decided, and what is left
 
+-- the same is made, and the slices hold the same, from whatever builder
+pub made : {a a' b c : Builder} {f g : Form} {o : Ended} → Makes a b f o → Makes a' c g o → (f ≡ g) × ((built b).1 ≡ (built c).1)
+made p q = let same = p.made ∙⁻¹ q.made in (λ i. (same i).form, λ i. stood (same i).mem (same i).builder)
+
+pub decided : {a a' b c : Builder} {f g : Bit} {o : Ended} → Makes a b f.0 o → Makes a' c g.0 o → (f ≡ g) × ((built b).1 ≡ (built c).1)
+decided p q = let same = made p q in (λ i. record { 0 = same.0 i }, same.1)
+
+pub left : {a a' b c : Builder} {o : Stood} → Leaves a b o → Leaves a' c o → (built b).1 ≡ (built c).1
+left p q = p.left ∙⁻¹ q.left
+
 -- what is lent stays lent: its names
 pub names : (a b c : Builder) → LentAs a b → LentAs a c → (built b).0 ≡ (built c).0
 names a b c p q = λ i. ((p.0.0 ∙⁻¹ q.0.0) i, ((p.0.1 ∙⁻¹ q.0.1) i, ((p.1 ∙⁻¹ q.1) i, (p.2 ∙⁻¹ q.2) i)))
 
-pub made : {a b c : Builder} {f g : Form} {o : Ended} → Makes a b f o → Makes a c g o → (f ≡ g) × (built b ≡ built c)
-made {a = a} {b = b} {c = c} p q =
-    let same = p.made ∙⁻¹ q.made in
-    let named = names a b c p.lent q.lent in
-    (λ i. (same i).form, λ i. (named i, stood (same i).mem (same i).builder))
+-- from one builder, in the same slices too
+in_place : (a b c : Builder) → LentAs a b → LentAs a c → (built b).1 ≡ (built c).1 → built b ≡ built c
+in_place a b c p q same = let named = names a b c p q in λ i. (named i, same i)
 
-pub decided : {a b c : Builder} {f g : Bit} {o : Ended} → Makes a b f.0 o → Makes a c g.0 o → (f ≡ g) × (built b ≡ built c)
-decided p q = let same = made p q in (λ i. record { 0 = same.0 i }, same.1)
+pub made_in_place : {a b c : Builder} {f g : Form} {o : Ended} → Makes a b f o → Makes a c g o → (f ≡ g) × (built b ≡ built c)
+made_in_place {a = a} {b = b} {c = c} p q = let same = made p q in (same.0, in_place a b c p.lent q.lent same.1)
 
-pub left : {a b c : Builder} {o : Stood} → Leaves a b o → Leaves a c o → built b ≡ built c
-left {a = a} {b = b} {c = c} p q = let same = p.left ∙⁻¹ q.left in let named = names a b c p.lent q.lent in λ i. (named i, same i)
+pub decided_in_place : {a b c : Builder} {f g : Bit} {o : Ended} → Makes a b f.0 o → Makes a c g.0 o → (f ≡ g) × (built b ≡ built c)
+decided_in_place {a = a} {b = b} {c = c} p q = let same = decided p q in (same.0, in_place a b c p.lent q.lent same.1)
+
+pub left_in_place : {a b c : Builder} {o : Stood} → Leaves a b o → Leaves a c o → built b ≡ built c
+left_in_place {a = a} {b = b} {c = c} p q = in_place a b c p.lent q.lent (left p q)
 
 -- ---- builder_table
 
@@ -103,28 +114,28 @@ pub one_load : One load_contract.ended load.Reads.Post
 one_load κs a x y u v p q = (p ∙⁻¹ q, refl)
 
 pub one_save : OneLeft save_contract.ended save.Reads.Post Built (λ κs a u. built u.0)
-one_save κs a x y u v p q = (refl, left p q)
+one_save κs a x y u v p q = (refl, left_in_place p q)
 
 pub one_wire_form : OneLeft wire_form_contract.ended wire_form.Reads.Post Built (λ κs a u. built u.0)
-one_wire_form κs a x y u v p q = made p q
+one_wire_form κs a x y u v p q = made_in_place p q
 
 pub one_plus : OneLeft plus_contract.ended plus.Reads.Post Built (λ κs a u. built u.0)
-one_plus κs a x y u v p q = made p q
+one_plus κs a x y u v p q = made_in_place p q
 
 pub one_scaled : OneLeft scaled_contract.ended scaled.Reads.Post Built (λ κs a u. built u.0)
-one_scaled κs a x y u v p q = made p q
+one_scaled κs a x y u v p q = made_in_place p q
 
 pub one_one_minus : OneLeft one_minus_contract.ended one_minus.Reads.Post Built (λ κs a u. built u.0)
-one_one_minus κs a x y u v p q = made p q
+one_one_minus κs a x y u v p q = made_in_place p q
 
 pub one_push : OneLeft push_contract.ended push.Reads.Post Built (λ κs a u. built u.0)
-one_push κs a x y u v p q = made p q
+one_push κs a x y u v p q = made_in_place p q
 
 pub one_standing : One standing_contract.ended standing.Reads.Post
 one_standing κs a x y u v p q = (p ∙⁻¹ q, refl)
 
 pub one_full : OneLeft full_contract.ended full.Reads.Post Built (λ κs a u. built u.0)
-one_full κs a x y u v p q = made p q
+one_full κs a x y u v p q = made_in_place p q
 
 -- ---- builder
 
@@ -144,16 +155,16 @@ pub one_or_disjoint : OneLeft or_disjoint_contract.ended or_disjoint.Reads.Post 
 one_or_disjoint κs a x y u v p q = bit_made a.0.now u.0 v.0 p.0 q.0 p.1 q.1
 
 pub one_is_zero : OneLeft is_zero_contract.ended is_zero.Reads.Post Built (λ κs a u. built u.0)
-one_is_zero κs a x y u v p q = decided p q
+one_is_zero κs a x y u v p q = decided_in_place p q
 
 pub one_at_least : OneLeft at_least_contract.ended at_least.Reads.Post Built (λ κs a u. built u.0)
-one_at_least κs a x y u v p q = decided p q
+one_at_least κs a x y u v p q = decided_in_place p q
 
 pub one_and : OneLeft and_contract.ended and.Reads.Post Built (λ κs a u. built u.0)
-one_and κs a x y u v p q = decided p q
+one_and κs a x y u v p q = decided_in_place p q
 
 pub one_or : OneLeft or_contract.ended or.Reads.Post Built (λ κs a u. built u.0)
-one_or κs a x y u v p q = decided p q
+one_or κs a x y u v p q = decided_in_place p q
 
 -- ---- status
 

@@ -39,7 +39,7 @@ use Rattle.lower_build.proofs.build
 use Rattle.lower_build.specs.contracts.build as build_contract
 use Rattle.unique.specs.One.{OneLeft}
 use Rattle.unique.specs.Left.{Built, built}
-use Rattle.unique.proofs.Builder.{names, decided, left}
+use Rattle.unique.proofs.Builder.{names, decided_in_place, left_in_place}
 
 -- ---- what a step of a pass answers, and what is left
 
@@ -71,22 +71,22 @@ pub one_arbitration : OneLeft arbitrate_contract.ended arbitrate.Reads.Post Buil
 one_arbitration κs a x y u v p q = raises p.0 q.0
 
 pub one_entry : OneLeft put_entry_contract.ended put_entry.Reads.Post Built (λ κs a u. built u.0)
-one_entry κs a x y u v p q = (refl, left p q)
+one_entry κs a x y u v p q = (refl, left_in_place p q)
 
 pub one_halt : OneLeft halt_one_contract.ended halt_one.Reads.Post Built (λ κs a u. built u.0)
-one_halt κs a x y u v p q = decided p q
+one_halt κs a x y u v p q = decided_in_place p q
 
 pub one_untouched : OneLeft untouched_one_contract.ended untouched_one.Reads.Post Built (λ κs a u. built u.0)
-one_untouched κs a x y u v p q = (refl, left p q)
+one_untouched κs a x y u v p q = (refl, left_in_place p q)
 
 pub one_next_running : OneLeft next_running_contract.ended next_running.Reads.Post Built (λ κs a u. built u.0)
-one_next_running κs a x y u v p q = (refl, left p q)
+one_next_running κs a x y u v p q = (refl, left_in_place p q)
 
 pub one_next_cursor : OneLeft next_cursor_contract.ended next_cursor.Reads.Post Built (λ κs a u. built u.0)
-one_next_cursor κs a x y u v p q = (refl, left p q)
+one_next_cursor κs a x y u v p q = (refl, left_in_place p q)
 
 pub one_reach : OneLeft reach_contract.ended reach.Reads.Post Built (λ κs a u. built u.0)
 one_reach κs a x y u v p q = lowers p q
 
 pub one_build : OneLeft build_contract.ended build.Reads.Post Built (λ κs a u. built u.0)
-one_build κs a x y u v p q = (refl, left p q)
+one_build κs a x y u v p q = (refl, left_in_place p q)
