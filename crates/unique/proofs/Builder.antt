@@ -81,7 +81,7 @@ use Rattle.unique.specs.Left.{Built, built, Pooled, pools}
 
 -- ---- what is made, or decided, and what is left
 
--- the same is made, and the slices hold the same, from whatever builder
+-- the same is made, the slices hold the same, and building stands at the same place, from whatever builder
 pub made : {a a' b c : Builder} {f g : Form} {o : Ended} → Makes a b f o → Makes a' c g o → (f ≡ g) × ((built b).1 ≡ (built c).1)
 made p q = let same = p.made ∙⁻¹ q.made in (λ i. (same i).form, λ i. stood (same i).mem (same i).builder)
 
